@@ -1,0 +1,10 @@
+pub mod Taking
+pub mod Appending
+pub mod Kept
+pub mod Reading
+pub mod Fields
+pub mod Workloads
+pub mod Answering
+pub mod Hands
+pub mod Keeping
+pub mod Ending

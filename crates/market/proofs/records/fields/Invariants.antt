@@ -1,0 +1,6 @@
+use Rattle.std.proofs.Common.{◌≡◌, map, take}
+use Rattle.csv.specs.Records.{fields_of}
+use Rattle.market.proofs.records.fields.Given as goal
+
+abbrev pub invariant-loop-field : goal.invariant-loop-field
+invariant-loop-field l = (l.field-iterator.row.now ≡ l.row) × (map (λ field. field.items) l.fields.items ≡ take l.field-iterator.at (fields_of l.row))

@@ -1,0 +1,38 @@
+-- What the lanes keep, as a list, and how they find it.
+use Rattle.std.specs.Prelude.{◌≡◌, ℕ, ◌<◌, List, Option, ◌==◌, find, count_by, position, slice_index}
+use Rattle.std.specs.Ordering.{nat_cmp, ordering_then}
+use Rattle.std.specs.declared.cmp.Ordering.{Ordering}
+use Rattle.std.specs.BTreeMap.{is_at}
+use Rattle.std.specs.Map.{lookup}
+use Rattle.market_amounts.specs.declared.keys.RequestId.{RequestId}
+use Rattle.market_events.specs.Requests.{lanes, lane_of, same_id}
+use Rattle.market.specs.declared.lanes.Kept.{Kept}
+
+-- the kept request with this id
+abbrev pub kept_at : List Kept → RequestId → Option Kept
+kept_at kept id = find (λ (k : Kept). same_id k.request.id id) kept
+
+-- where it stands
+abbrev pub place_of : List Kept → RequestId → Option ℕ
+place_of kept id = position (λ (k : Kept). same_id k.request.id id) kept
+
+-- how many kept requests are of this id's lane
+abbrev pub count_in_lane : List Kept → RequestId → ℕ
+count_in_lane kept id = count_by (λ (k : Kept). lane_of k.request.id == lane_of id) kept
+
+-- how many kept requests are of this lane
+abbrev pub count_of_lane : List Kept → ℕ → ℕ
+count_of_lane kept lane = count_by (λ (k : Kept). lane_of k.request.id == lane) kept
+
+-- by caller, and then by number
+abbrev pub id_cmp : RequestId → RequestId → Ordering
+id_cmp a b = ordering_then (nat_cmp a.caller b.caller) (nat_cmp a.number b.number)
+
+-- the place that the entries have for an id
+abbrev pub place_at : List (RequestId × ℕ) → RequestId → Option ℕ
+place_at places id = lookup (is_at (id_cmp id)) places
+
+-- the places tell where each id stands, and the counts how many each lane keeps
+pub record AreLanesOf (kept : List Kept) (places : List (RequestId × ℕ)) (counts : List ℕ) : Type 0 where
+  pub found : (id : RequestId) → place_at places id ≡ place_of kept id
+  pub counted : (lane : ℕ) → lane < lanes → slice_index counts lane ≡ count_of_lane kept lane

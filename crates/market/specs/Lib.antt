@@ -1,0 +1,11 @@
+pub mod Once
+pub mod Sequential
+pub mod Input
+pub mod Output
+pub mod Records
+pub mod Workload
+pub mod Lanes
+pub mod Hand
+pub mod Words
+pub mod Statuses
+pub mod Runs

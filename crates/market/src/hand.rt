@@ -1,0 +1,135 @@
+//! Requests taken in one after the other: a lane keeps each once, and the market answers it at once.
+
+ghost use Rattle.std.specs.Prelude.{◌≡◌, ◌+◌, ◌<◌, ◌^◌, List, [], ◌∷◌, ◌++◌, true, not, is_some, ◌&&◌, nat_lt, IfOk, IfSome, OnOk, length};
+ghost use Rattle.market_events.specs.declared.requests.Request.{Request};
+ghost use Rattle.market_events.specs.Answers.{key_asked, reply_of, change_made};
+ghost use Rattle.market_events.specs.Copies.{ProductChange};
+ghost use Rattle.market_events.specs.Looks.{look_version, can_change};
+ghost use Rattle.cart_replica.specs.Copy.{look_at, IsCopyOf};
+ghost use Rattle.market.specs.Lanes.{kept_at, count_in_lane};
+ghost use Rattle.market.specs.Sequential.{change_list};
+
+use crate::lanes::{Kept, Lanes, MOST_KEPT};
+use cart_replica::ProductCopy;
+use market_amounts::{ProductKey, RequestId};
+use market_events::{Ask, Change, Look, Reply, Request, Rule};
+use std::alloc::{AllocError, Global};
+
+/// The lanes, and the one copy of the products to which each accepted change is applied at once.
+#[derive(Drop)]
+pub struct Hand {
+    lanes: Lanes,
+    products: ProductCopy,
+}
+
+impl Hand {
+    ghost use Rattle.market.specs.Hand.{Stands, kept_replies};
+
+    /// Nothing was given.
+    pub fn new(alloc: Global) -> Hand
+        ensures { Stands result [] }
+    {
+        Hand {
+            lanes: Lanes::new(alloc),
+            products: ProductCopy::new(alloc),
+        }
+    }
+
+    /// What is kept.
+    pub fn lanes(&self) -> &Lanes
+        ensures { (given : List Request) → Stands self.now given → result.now ≡ kept_replies given }
+    {
+        &self.lanes
+    }
+
+    /// Takes a request in: it is kept and answered, unless its id is kept or its lane has no room. After want of
+    /// memory this is given up.
+    pub fn take(&mut self, request: &Request) -> Result<(), AllocError>
+        requires { (given : List Request) × Stands self.old given × (length given < 2 ^ 31) }
+        ensures { OnOk result ((given : List Request) → Stands self.old given → Stands self.new (given ++ request.now ∷ [])) }
+    {
+        let Request { id, ask } = *request;
+        if !can_keep(&self.lanes, id) {
+            return Ok(());
+        }
+        let reply = answer(&mut self.products, &ask)?;
+        self.lanes.keep(Kept {
+            request: Request { id, ask },
+            reply,
+        })?;
+        Ok(())
+    }
+}
+
+// Whether the id is new and its lane has room.
+fn can_keep(lanes: &Lanes, id: RequestId) -> bool
+    ensures { result ≡ (not (is_some (kept_at lanes.now id)) && nat_lt (count_in_lane lanes.now id) MOST_KEPT) }
+{
+    lanes.find(id).is_none() && lanes.has_room(id)
+}
+
+// The reply to a new request, whose change is applied.
+fn answer(products: &mut ProductCopy, ask: &Ask) -> Result<Reply, AllocError>
+    requires { look_version (look_at products.old (key_asked ask.now)) + 1 < 2 ^ 32 }
+    ensures reply { let look = look_at products.old (key_asked ask.now) in IfOk result (λ reply. reply ≡ reply_of ask.now look (look_version look)) }
+    ensures copies { let look = look_at products.old (key_asked ask.now) in OnOk result ((changes : List ProductChange) → IsCopyOf products.old changes
+        → IsCopyOf products.new (changes ++ change_list ask.now (look_version look + 1) (change_made ask.now look))) }
+{
+    let key = product_of(ask);
+    let look = products.look(key);
+    let reply = reply_to(ask, &look);
+    if let Some(change) = change_by(ask, &look) {
+        products.apply(key, version(&look) + 1, &change)?;
+    }
+    Ok(reply)
+}
+
+// The product that a request is about.
+fn product_of(ask: &Ask) -> ProductKey
+    ensures { result ≡ key_asked ask.now }
+{
+    match ask {
+        Ask::Create(key, _, _) | Ask::Price(key, _) | Ask::View(key) => *key,
+    }
+}
+
+// How many changes a product had.
+fn version(look: &Look) -> u32
+    ensures { result ≡ look_version look.now }
+{
+    match look {
+        Look::Unknown => 0,
+        Look::Gone(version) | Look::Live(version, _, _) => *version,
+    }
+}
+
+// The change that a request makes of a product that shows this.
+fn change_by(ask: &Ask, look: &Look) -> Option<Change>
+    ensures made { result ≡ change_made ask.now look.now }
+    ensures can { IfSome result (λ change. can_change look.now change ≡ true) }
+{
+    match (ask, look) {
+        (Ask::Create(_, price, freight), Look::Unknown | Look::Gone(_)) => {
+            Some(Change::Created(*price, *freight))
+        }
+        (Ask::Price(_, price), Look::Live(..)) => Some(Change::Priced(*price)),
+        _ => None,
+    }
+}
+
+// The reply to a request about a product that shows this.
+fn reply_to(ask: &Ask, look: &Look) -> Reply
+    requires { look_version look.now + 1 < 2 ^ 32 }
+    ensures { result ≡ reply_of ask.now look.now (look_version look.now) }
+{
+    match (ask, look) {
+        (Ask::Create(..), Look::Live(..)) => Reply::Refused(Rule::Exists),
+        (Ask::Create(..), _) => Reply::Created(version(look) + 1),
+        (_, Look::Unknown) => Reply::Refused(Rule::Unknown),
+        (_, Look::Gone(_)) => Reply::Refused(Rule::Gone),
+        (Ask::Price(..), Look::Live(version, _, _)) => Reply::Priced(*version + 1),
+        (Ask::View(_), Look::Live(version, price, freight)) => Reply::View(
+            *version, *price, *freight,
+        ),
+    }
+}

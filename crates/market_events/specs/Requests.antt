@@ -1,0 +1,27 @@
+-- Ids of requests, and the lanes that take them in.
+use Rattle.std.specs.Prelude.{ℕ, ◌%◌, Bool, false, ◌==◌, ◌&&◌}
+use Rattle.market_amounts.specs.declared.keys.RequestId.{RequestId}
+use Rattle.market_amounts.specs.declared.keys.ProductKey.{ProductKey}
+use Rattle.market_events.specs.declared.requests.Ask.{Ask}
+use Rattle.market_events.specs.declared.requests.Ask.TheVariants.{Create, Price, View}
+
+-- how many lanes take requests in
+abbrev pub lanes : ℕ
+lanes = 16
+
+-- the lane of a request
+abbrev pub lane_of : RequestId → ℕ
+lane_of id = id.caller % lanes
+
+abbrev pub same_id : RequestId → RequestId → Bool
+same_id a b = (a.caller == b.caller) && (a.number == b.number)
+
+abbrev pub same_key : ProductKey → ProductKey → Bool
+same_key a b = (a.seller == b.seller) && (a.product == b.product)
+
+-- whether two requests ask for the same
+abbrev pub same_ask : Ask → Ask → Bool
+same_ask (Create k p f) (Create l q g) = same_key k l && (p == q) && (f == g)
+same_ask (Price k p) (Price l q) = same_key k l && (p == q)
+same_ask (View k) (View l) = same_key k l
+same_ask a b = false

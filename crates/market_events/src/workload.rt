@@ -1,0 +1,128 @@
+//! The records of a workload.
+
+ghost use Rattle.std.specs.Prelude.{◌≡◌, ◌≢◌, map, length, MatchResult};
+ghost use Rattle.market_events.specs.Workload.{request_of, ask_named, create_of, price_of, view_of, key_of, id_number_of, cents_of, number_up_to};
+
+use crate::requests::{Ask, Request};
+use market_amounts::{Cents, NumberError, ProductKey, RequestId, read_number};
+use thiserror::Error;
+
+/// The rules of a workload record.
+#[derive(Clone, Copy, Debug, PartialEq, Eq, Error)]
+pub enum WorkRule {
+    /// There are too few fields, or not as many arguments as the kind has.
+    #[error("fields")]
+    Fields,
+    /// A number is not spelled in decimal digits without a leading zero.
+    #[error("number")]
+    Number,
+    /// A number is above its range, or 0 where that is out of range.
+    #[error("range")]
+    Range,
+    /// The kind is none that is built.
+    #[error("kind")]
+    Kind,
+}
+
+/// Reads a record `caller,number,kind,argument,..`. Of the rules that it breaks the first is answered: fewer than three
+/// fields, the spelling and range of caller and number, the kind, the number of arguments, and then the spelling and
+/// range of each argument in turn.
+pub fn read_fields(fields: &[Vec<u8>]) -> Result<Request, WorkRule>
+    ensures exact { result ≡ request_of (map (λ field. field.items) fields.now) }
+{
+    let [caller, number, kind, arguments @ ..] = fields else {
+        return Err(WorkRule::Fields);
+    };
+    let caller = id_number(caller)?;
+    let number = id_number(number)?;
+    let ask = ask_of_kind(kind, arguments)?;
+    Ok(Request {
+        id: RequestId { caller, number },
+        ask,
+    })
+}
+
+fn ask_of_kind(kind: &[u8], arguments: &[Vec<u8>]) -> Result<Ask, WorkRule>
+    ensures { result ≡ ask_named kind.now (map (λ field. field.items) arguments.now) }
+{
+    if kind == b"create".as_slice() {
+        create(arguments)
+    } else if kind == b"price".as_slice() {
+        price(arguments)
+    } else if kind == b"view".as_slice() {
+        view(arguments)
+    } else {
+        Err(WorkRule::Kind)
+    }
+}
+
+#[tactic(auto, using(crate::proofs::Counts::counts))]
+fn create(arguments: &[Vec<u8>]) -> Result<Ask, WorkRule>
+    ensures { result ≡ create_of (map (λ field. field.items) arguments.now) }
+{
+    let [seller, product, price, freight] = exactly::<4>(arguments)?;
+    let key = key(seller, product)?;
+    let price = cents(price)?;
+    let freight = cents(freight)?;
+    Ok(Ask::Create(key, price, freight))
+}
+
+#[tactic(auto, using(crate::proofs::Counts::counts))]
+fn price(arguments: &[Vec<u8>]) -> Result<Ask, WorkRule>
+    ensures { result ≡ price_of (map (λ field. field.items) arguments.now) }
+{
+    let [seller, product, price] = exactly::<3>(arguments)?;
+    let key = key(seller, product)?;
+    let price = cents(price)?;
+    Ok(Ask::Price(key, price))
+}
+
+#[tactic(auto, using(crate::proofs::Counts::counts))]
+fn view(arguments: &[Vec<u8>]) -> Result<Ask, WorkRule>
+    ensures { result ≡ view_of (map (λ field. field.items) arguments.now) }
+{
+    let [seller, product] = exactly::<2>(arguments)?;
+    let key = key(seller, product)?;
+    Ok(Ask::View(key))
+}
+
+// The arguments, where there are as many as the kind has.
+fn exactly<const N: usize>(arguments: &[Vec<u8>]) -> Result<&[Vec<u8>; N], WorkRule>
+    ensures { MatchResult result (λ all. (all.now ≡ arguments.now) × (length arguments.now ≡ N)) (λ rule. (rule ≡ WorkRule.Fields) × (length arguments.now ≢ N)) }
+{
+    arguments.try_into().map_err(|_| WorkRule::Fields)
+}
+
+fn key(seller: &[u8], product: &[u8]) -> Result<ProductKey, WorkRule>
+    ensures { result ≡ key_of seller.now product.now }
+{
+    let seller = id_number(seller)?;
+    let product = id_number(product)?;
+    Ok(ProductKey { seller, product })
+}
+
+// A number that names something, of 32 bits.
+fn id_number(text: &[u8]) -> Result<u32, WorkRule>
+    ensures { result ≡ id_number_of text.now }
+{
+    let number = number(text, u64::from(u32::MAX))?;
+    Ok(number as u32)
+}
+
+fn cents(text: &[u8]) -> Result<Cents, WorkRule>
+    ensures { result ≡ cents_of text.now }
+{
+    let number = number(text, Cents::MAX)?;
+    Cents::try_new(number).map_err(|_| WorkRule::Range)
+}
+
+// A number up to a limit, by its spelling and then its range.
+fn number(text: &[u8], limit: u64) -> Result<u64, WorkRule>
+    ensures { result ≡ number_up_to limit text.now }
+{
+    read_number(text, limit).map_err(|error| match error {
+        NumberError::TooLarge => WorkRule::Range,
+        NumberError::Empty | NumberError::NotDigit(_) | NumberError::LeadingZero =>
+            WorkRule::Number,
+    })
+}
