@@ -1,2 +1,3 @@
-pub mod Counts
+pub mod FieldCounts
 pub mod CopyLaws
+pub mod OfferLaws

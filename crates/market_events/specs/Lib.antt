@@ -5,3 +5,6 @@ pub mod Looks
 pub mod Answers
 pub mod Workload
 pub mod Texts
+pub mod Links
+pub mod Counts
+pub mod Offers

@@ -3,6 +3,13 @@
 #![tactic(auto)]
 
 mod changes;
+mod counts;
+#[cfg(test)]
+mod event_tests;
+mod events;
+#[cfg(test)]
+mod link_tests;
+mod links;
 mod nodes;
 mod replies;
 mod requests;
@@ -12,6 +19,9 @@ mod texts;
 mod workload;
 
 pub use changes::{Change, Look};
+pub use counts::Counts;
+pub use events::{Body, Entry, Event, Offer, What};
+pub use links::{Link, SERVICE_LINKS, link_index, receiver_of, sender_of, service_of};
 pub use nodes::Node;
 pub use replies::{Reply, Rule};
 pub use requests::{Ask, Request};

@@ -38,6 +38,14 @@ impl Node {
         Some(Node { number })
     }
 
+    // The node with this number.
+    pub(crate) fn at(number: u32) -> Node
+        requires { number ≤ Self.MAX }
+        ensures { result ≡ number }
+    {
+        Node { number }
+    }
+
     /// Its number.
     pub fn get(self) -> u32
         ensures value { result ≡ self }

@@ -56,7 +56,7 @@ fn ask_of_kind(kind: &[u8], arguments: &[Vec<u8>]) -> Result<Ask, WorkRule>
     }
 }
 
-#[tactic(auto, using(crate::proofs::Counts::counts))]
+#[tactic(auto, using(crate::proofs::FieldCounts::counts))]
 fn create(arguments: &[Vec<u8>]) -> Result<Ask, WorkRule>
     ensures { result ≡ create_of (map (λ field. field.items) arguments.now) }
 {
@@ -67,7 +67,7 @@ fn create(arguments: &[Vec<u8>]) -> Result<Ask, WorkRule>
     Ok(Ask::Create(key, price, freight))
 }
 
-#[tactic(auto, using(crate::proofs::Counts::counts))]
+#[tactic(auto, using(crate::proofs::FieldCounts::counts))]
 fn price(arguments: &[Vec<u8>]) -> Result<Ask, WorkRule>
     ensures { result ≡ price_of (map (λ field. field.items) arguments.now) }
 {
@@ -77,7 +77,7 @@ fn price(arguments: &[Vec<u8>]) -> Result<Ask, WorkRule>
     Ok(Ask::Price(key, price))
 }
 
-#[tactic(auto, using(crate::proofs::Counts::counts))]
+#[tactic(auto, using(crate::proofs::FieldCounts::counts))]
 fn view(arguments: &[Vec<u8>]) -> Result<Ask, WorkRule>
     ensures { result ≡ view_of (map (λ field. field.items) arguments.now) }
 {

@@ -1,6 +1,6 @@
 use Rattle.std.proofs.Common.{arith, map}
 use Rattle.std.proofs.lemmas.List.{length-map}
-use Rattle.market_events.proofs.Counts.{request_of-few}
+use Rattle.market_events.proofs.FieldCounts.{request_of-few}
 use Rattle.market_events.proofs.workload.read_fields.Goals as goal
 
 pub returns-in_default : goal.returns-in_default

@@ -1,0 +1,5 @@
+pub mod EntryLaws
+pub mod SentLaws
+pub mod StampLaws
+pub mod CausalityLaws
+pub mod Examples

@@ -1,0 +1,170 @@
+-- One more entry of a journal, and the events of a link.
+use Rattle.std.proofs.Common.{◌≡◌, ℕ, ◌+◌, true, false, List, [], ◌∷◌, ◌++◌, Option, Some, None, length, refl, ap, subst, sym, ◌∙◌, arith, append_assoc}
+use Rattle.std.specs.Prelude.{map, slice_get}
+use Rattle.std.specs.List.{cons_option, filter_map, range_with_len}
+use Rattle.std.specs.Option.{option_to_list}
+use Rattle.std.proofs.lemmas.List.{append-nil}
+use Rattle.std.proofs.lemmas.List.Elements.{filter_map-append}
+use Rattle.market_amounts.specs.declared.keys.RequestId.{RequestId}
+use Rattle.market_events.specs.declared.events.Entry.{Entry}
+use Rattle.market_events.specs.declared.events.Event.{Event}
+use Rattle.market_events.specs.declared.events.What.TheVariants.{Given, Taken, Made, Answered}
+use Rattle.market_events.specs.declared.links.Link.{Link}
+use Rattle.market_events.specs.declared.requests.Request.{Request}
+use Rattle.market_events.specs.declared.replies.Reply.{Reply}
+use Rattle.market_events.specs.Links.{same_link}
+use Rattle.market_history.specs.Sent.{event_on, made_on, got_on, sent, got, IsNumbered, IsPrefixOf, IsMatchedOn}
+
+-- one element more gives at most one more
+pub filter_map-push : {A B : Type 0} (f : A → Option B) (xs : List A) (x : A) → filter_map f (xs ++ x ∷ []) ≡ filter_map f xs ++ option_to_list (f x)
+filter_map-push f xs x = filter_map-append f xs (x ∷ []) ∙ ap (λ ys. filter_map f xs ++ ys) (of_one (f x))
+  where
+    of_one : {B : Type 0} (o : Option B) → cons_option o [] ≡ option_to_list o
+    of_one None = refl
+    of_one (Some y) = refl
+
+-- one entry more, whatever it is
+pub sent-push : (link : Link) (xs : List Entry) (x : Entry) → sent link (xs ++ x ∷ []) ≡ sent link xs ++ option_to_list (made_on link x.what)
+sent-push link xs x = filter_map-push (λ (y : Entry). made_on link y.what) xs x
+
+pub got-push : (link : Link) (xs : List Entry) (x : Entry) → got link (xs ++ x ∷ []) ≡ got link xs ++ option_to_list (got_on link x.what)
+got-push link xs x = filter_map-push (λ (y : Entry). got_on link y.what) xs x
+
+-- an event on the link, and one on another
+event_on-same : (link : Link) (event : Event) → same_link event.link link ≡ true → event_on link event ≡ Some event
+event_on-same link event same = rw same
+
+event_on-other : (link : Link) (event : Event) → same_link event.link link ≡ false → event_on link event ≡ None
+event_on-other link event other = rw other
+
+-- the entry made this event on the link
+pub sent-push-some : (link : Link) (xs : List Entry) (x : Entry) (event : Event) → made_on link x.what ≡ Some event → sent link (xs ++ x ∷ []) ≡ sent link xs ++ event ∷ []
+sent-push-some link xs x event some = sent-push link xs x ∙ ap (λ o. sent link xs ++ option_to_list o) some
+
+-- the entry made none on the link
+pub sent-push-none : (link : Link) (xs : List Entry) (x : Entry) → made_on link x.what ≡ None → sent link (xs ++ x ∷ []) ≡ sent link xs
+sent-push-none link xs x none =
+    sent-push link xs x ∙ ap (λ o. sent link xs ++ option_to_list o) none ∙ append-nil (sent link xs)
+
+pub sent-push-made : (link : Link) (xs : List Entry) (x : Entry) (event : Event) → x.what ≡ Made event → same_link event.link link ≡ true → sent link (xs ++ x ∷ []) ≡ sent link xs ++ event ∷ []
+sent-push-made link xs x event is same =
+    sent-push-some link xs x event (ap (λ w. made_on link w) is ∙ event_on-same link event same)
+
+pub sent-push-made_other : (link : Link) (xs : List Entry) (x : Entry) (event : Event) → x.what ≡ Made event → same_link event.link link ≡ false → sent link (xs ++ x ∷ []) ≡ sent link xs
+sent-push-made_other link xs x event is other =
+    sent-push-none link xs x (ap (λ w. made_on link w) is ∙ event_on-other link event other)
+
+pub sent-push-taken : (link : Link) (xs : List Entry) (x : Entry) (event : Event) → x.what ≡ Taken event → sent link (xs ++ x ∷ []) ≡ sent link xs
+sent-push-taken link xs x event is = sent-push-none link xs x (ap (λ w. made_on link w) is)
+
+pub sent-push-given : (link : Link) (xs : List Entry) (x : Entry) (request : Request) → x.what ≡ Given request → sent link (xs ++ x ∷ []) ≡ sent link xs
+sent-push-given link xs x request is = sent-push-none link xs x (ap (λ w. made_on link w) is)
+
+pub sent-push-answered : (link : Link) (xs : List Entry) (x : Entry) (id : RequestId) (reply : Reply) → x.what ≡ Answered id reply → sent link (xs ++ x ∷ []) ≡ sent link xs
+sent-push-answered link xs x id reply is = sent-push-none link xs x (ap (λ w. made_on link w) is)
+
+-- the entry took this event on the link
+pub got-push-some : (link : Link) (xs : List Entry) (x : Entry) (event : Event) → got_on link x.what ≡ Some event → got link (xs ++ x ∷ []) ≡ got link xs ++ event ∷ []
+got-push-some link xs x event some = got-push link xs x ∙ ap (λ o. got link xs ++ option_to_list o) some
+
+-- the entry took none on the link
+pub got-push-none : (link : Link) (xs : List Entry) (x : Entry) → got_on link x.what ≡ None → got link (xs ++ x ∷ []) ≡ got link xs
+got-push-none link xs x none =
+    got-push link xs x ∙ ap (λ o. got link xs ++ option_to_list o) none ∙ append-nil (got link xs)
+
+pub got-push-taken : (link : Link) (xs : List Entry) (x : Entry) (event : Event) → x.what ≡ Taken event → same_link event.link link ≡ true → got link (xs ++ x ∷ []) ≡ got link xs ++ event ∷ []
+got-push-taken link xs x event is same =
+    got-push-some link xs x event (ap (λ w. got_on link w) is ∙ event_on-same link event same)
+
+pub got-push-taken_other : (link : Link) (xs : List Entry) (x : Entry) (event : Event) → x.what ≡ Taken event → same_link event.link link ≡ false → got link (xs ++ x ∷ []) ≡ got link xs
+got-push-taken_other link xs x event is other =
+    got-push-none link xs x (ap (λ w. got_on link w) is ∙ event_on-other link event other)
+
+pub got-push-made : (link : Link) (xs : List Entry) (x : Entry) (event : Event) → x.what ≡ Made event → got link (xs ++ x ∷ []) ≡ got link xs
+got-push-made link xs x event is = got-push-none link xs x (ap (λ w. got_on link w) is)
+
+pub got-push-given : (link : Link) (xs : List Entry) (x : Entry) (request : Request) → x.what ≡ Given request → got link (xs ++ x ∷ []) ≡ got link xs
+got-push-given link xs x request is = got-push-none link xs x (ap (λ w. got_on link w) is)
+
+pub got-push-answered : (link : Link) (xs : List Entry) (x : Entry) (id : RequestId) (reply : Reply) → x.what ≡ Answered id reply → got link (xs ++ x ∷ []) ≡ got link xs
+got-push-answered link xs x id reply is = got-push-none link xs x (ap (λ w. got_on link w) is)
+
+-- the numbers of the events go up from this one
+NumberedFrom : ℕ → List Event → Type 0
+NumberedFrom a events = map {A = Event} {B = ℕ} (λ e. e.number) events ≡ range_with_len a (length events)
+
+NumberedFrom-push : (a : ℕ) (events : List Event) (event : Event) → NumberedFrom a events → event.number ≡ a + length events → NumberedFrom a (events ++ event ∷ [])
+unfolding NumberedFrom
+NumberedFrom-push a [] event numbered next = let e : event.number ≡ a = omega arith in rw e
+NumberedFrom-push a (x ∷ xs) event numbered next =
+    let first : x.number ≡ a = cc in
+    let others : map {A = Event} {B = ℕ} (λ e. e.number) xs ≡ range_with_len (a + 1) (length xs) = cc in
+    let e : event.number ≡ a + 1 + length xs = omega arith in
+    let more = NumberedFrom-push (a + 1) xs event others e in
+    cc
+
+NumberedFrom-front : (a : ℕ) (events more : List Event) → NumberedFrom a (events ++ more) → NumberedFrom a events
+unfolding NumberedFrom
+NumberedFrom-front a [] more numbered = refl
+NumberedFrom-front a (x ∷ xs) more numbered =
+    let first : x.number ≡ a = cc in
+    let others : map {A = Event} {B = ℕ} (λ e. e.number) (xs ++ more) ≡ range_with_len (a + 1) (length (xs ++ more)) = cc in
+    let front = NumberedFrom-front (a + 1) xs more others in
+    cc
+
+NumberedFrom-at : (a : ℕ) (before : List Event) (event : Event) (after : List Event) → NumberedFrom a (before ++ event ∷ after) → event.number ≡ a + length before
+unfolding NumberedFrom
+NumberedFrom-at a [] event after numbered = let first : event.number ≡ a = cc in omega arith
+NumberedFrom-at a (x ∷ xs) event after numbered =
+    let others : map {A = Event} {B = ℕ} (λ e. e.number) (xs ++ event ∷ after) ≡ range_with_len (a + 1) (length (xs ++ event ∷ after)) = cc in
+    let there : event.number ≡ a + 1 + length xs = NumberedFrom-at (a + 1) xs event after others in
+    omega arith
+
+-- one event more, with the next number
+pub IsNumbered-push : (events : List Event) (event : Event) → IsNumbered events → event.number ≡ length events + 1 → IsNumbered (events ++ event ∷ [])
+unfolding NumberedFrom
+IsNumbered-push events event numbered next = NumberedFrom-push 1 events event numbered (omega arith)
+
+-- the first events have the first numbers
+pub IsNumbered-front : (events more : List Event) → IsNumbered (events ++ more) → IsNumbered events
+unfolding NumberedFrom
+IsNumbered-front events more numbered = NumberedFrom-front 1 events more numbered
+
+-- an event's number is one more than there are before it
+pub IsNumbered-at : (before : List Event) (event : Event) (after : List Event) → IsNumbered (before ++ event ∷ after) → event.number ≡ length before + 1
+unfolding NumberedFrom
+IsNumbered-at before event after numbered =
+    let there : event.number ≡ 1 + length before = NumberedFrom-at 1 before event after numbered in omega arith
+
+-- a prefix of a list is one of a longer list
+pub IsPrefixOf-more : {A : Type 0} (xs ys zs : List A) → IsPrefixOf xs ys → IsPrefixOf xs (ys ++ zs)
+IsPrefixOf-more xs ys zs (rest, is) = (rest ++ zs, ap (λ l. l ++ zs) is ∙ append_assoc xs rest zs)
+
+-- what stands right after the first list
+slice_get_seam : {A : Type 0} (xs rest : List A) (y : A) → slice_get (xs ++ rest) (length xs) ≡ Some y → (more : List A) × (rest ≡ y ∷ more)
+slice_get_seam [] [] y there = let no : ⊥ = cc in absurd no
+slice_get_seam [] (z ∷ zs) y there = let e : z ≡ y = cc in (zs, ap (λ w. w ∷ zs) e)
+slice_get_seam (x ∷ xs) rest y there = slice_get_seam xs rest y there
+
+-- the element after a prefix makes a longer prefix
+pub IsPrefixOf-next : {A : Type 0} (xs ys : List A) (y : A) → IsPrefixOf xs ys → slice_get ys (length xs) ≡ Some y → IsPrefixOf (xs ++ y ∷ []) ys
+IsPrefixOf-next xs ys y (rest, is) there =
+    let after = slice_get_seam xs rest y (ap (λ l. slice_get l (length xs)) (sym is) ∙ there) in
+    (after.0, is ∙ ap (λ l. xs ++ l) after.1 ∙ sym (append_assoc xs (y ∷ []) after.0))
+
+-- an event more that the sender made
+pub IsMatchedOn-made : (link : Link) (sender receiver : List Entry) (x : Entry) → IsMatchedOn link sender receiver → IsMatchedOn link (sender ++ x ∷ []) receiver
+IsMatchedOn-made link sender receiver x matched =
+    subst (λ events. IsPrefixOf (got link receiver) events) (sym (sent-push link sender x))
+    (IsPrefixOf-more (got link receiver) (sent link sender) (option_to_list (made_on link x.what)) matched)
+
+-- an event more that the receiver took, the next that the sender made
+pub IsMatchedOn-taken : (link : Link) (sender receiver : List Entry) (x : Entry) (event : Event) → IsMatchedOn link sender receiver → x.what ≡ Taken event → same_link event.link link ≡ true → slice_get (sent link sender) (length (got link receiver)) ≡ Some event → IsMatchedOn link sender (receiver ++ x ∷ [])
+IsMatchedOn-taken link sender receiver x event matched is same next =
+    subst (λ events. IsPrefixOf events (sent link sender)) (sym (got-push-taken link receiver x event is same))
+    (IsPrefixOf-next (got link receiver) (sent link sender) event matched next)
+
+-- an entry more of the receiver that took no event on the link
+pub IsMatchedOn-other : (link : Link) (sender receiver : List Entry) (x : Entry) → IsMatchedOn link sender receiver → got_on link x.what ≡ None → IsMatchedOn link sender (receiver ++ x ∷ [])
+IsMatchedOn-other link sender receiver x matched none =
+    subst (λ events. IsPrefixOf events (sent link sender)) (sym (got-push-none link receiver x none)) matched

@@ -1,0 +1,4 @@
+pub mod Journals
+pub mod Sent
+pub mod Stamps
+pub mod Causality

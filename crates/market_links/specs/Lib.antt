@@ -1,0 +1,2 @@
+pub mod SenderStates
+pub mod Senders
