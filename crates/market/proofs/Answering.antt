@@ -58,7 +58,7 @@ count_in_lane-replies changes requests r = count_from 0 (lane_of r.id) changes r
 abbrev pub VersionsAgree : List ProductChange → Type 0
 VersionsAgree changes = (key : ProductKey) → look_version (copy_of changes key) ≡ version_of changes key
 
-same_key-equal : (a b : ProductKey) → same_key a b ≡ true → a ≡ b
+pub same_key-equal : (a b : ProductKey) → same_key a b ≡ true → a ≡ b
 same_key-equal a b e =
     let parts = and_parts (a.seller == b.seller) (a.product == b.product) e in
     let seller = eqb-true a.seller b.seller parts.0 in
@@ -74,12 +74,12 @@ change_made-can (Price key price) (Gone v) c e = cc
 change_made-can (Price key price) (Live v p f) c e = let is : change.Priced price ≡ c = cc in rw (← is) refl
 change_made-can (View key) look c e = cc
 
-look_version-after : (look : Look) (version : ℕ) (c : Change) → look_version (look_after look version c) ≡ version
+pub look_version-after : (look : Look) (version : ℕ) (c : Change) → look_version (look_after look version c) ≡ version
 look_version-after look version (change.Created p f) = refl
 look_version-after look version (change.Priced p) = refl
 look_version-after look version change.Deleted = refl
 
-agree_at : (changes : List ProductChange) (c : ProductChange) (key : ProductKey) (b : Bool) → same_key key c.key ≡ b → VersionsAgree changes
+pub agree_at : (changes : List ProductChange) (c : ProductChange) (key : ProductKey) (b : Bool) → same_key key c.key ≡ b → VersionsAgree changes
     → c.version ≡ version_of changes c.key + 1 → can_change (copy_of changes c.key) c.change ≡ true
     → look_version (copy_of (changes ++ c ∷ []) key) ≡ version_of (changes ++ c ∷ []) key
 agree_at changes c key true same agree next can =
@@ -102,7 +102,7 @@ versions_agree changes [] agree = agree
 versions_agree changes (r ∷ rs) agree = versions_agree (changes ++ sequential_changes changes r.ask) rs
     (agree_made changes r.ask (change_made r.ask (copy_of changes (key_asked r.ask))) refl agree)
 
--- versions stay below the number of requests
+-- changes and versions are no more than the requests
 
 made_few : (ask : Ask) (version : ℕ) (made : Option Change) → length (change_list ask version made) ≤ 1
 made_few ask version None = omega arith
@@ -132,10 +132,12 @@ length-kept_of most given = omega (
   length-kept_after (λ before r. not (has_id_of before r)) [] given,
 )
 
+pub changes_few : (most : ℕ) (given : List Request) → length (changes_after [] (kept_of most given)) ≤ length given
+changes_few most given = omega (arith, length-changes_after [] (kept_of most given), length-kept_of most given)
+
 pub version_few : (most : ℕ) (given : List Request) (key : ProductKey) → version_of (changes_after [] (kept_of most given)) key ≤ length given
 version_few most given key = omega (
   arith,
   count_by-le-length (λ (c : ProductChange). same_key key c.key) (changes_after [] (kept_of most given)),
-  length-changes_after [] (kept_of most given),
-  length-kept_of most given,
+  changes_few most given,
 )

@@ -5,6 +5,8 @@ pub mod Reading
 pub mod Fields
 pub mod Workloads
 pub mod Answering
+pub mod Passing
 pub mod Hands
 pub mod Keeping
 pub mod Ending
+pub mod Pairing

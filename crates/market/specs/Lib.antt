@@ -9,3 +9,4 @@ pub mod Hand
 pub mod Words
 pub mod Statuses
 pub mod Runs
+pub mod Pairs

@@ -3,23 +3,24 @@
 ghost use Rattle.std.specs.Prelude.{◌≡◌, ◌+◌, ◌<◌, ◌^◌, List, [], ◌∷◌, ◌++◌, true, not, is_some, ◌&&◌, nat_lt, IfOk, IfSome, OnOk, length};
 ghost use Rattle.market_events.specs.declared.requests.Request.{Request};
 ghost use Rattle.market_events.specs.Answers.{key_asked, reply_of, change_made};
-ghost use Rattle.market_events.specs.Copies.{ProductChange};
-ghost use Rattle.market_events.specs.Looks.{look_version, can_change};
-ghost use Rattle.cart_replica.specs.Copy.{look_at, IsCopyOf};
+ghost use Rattle.market_events.specs.Copies.{version_of};
+ghost use Rattle.market_events.specs.Looks.{look_version};
+ghost use Rattle.cart_replica.specs.Copy.{look_at};
 ghost use Rattle.market.specs.Lanes.{kept_at, count_in_lane};
-ghost use Rattle.market.specs.Sequential.{change_list};
+ghost use Rattle.market.specs.Pairs.{IsInStep, made_events, changes_of, may_make};
+ghost use Rattle.market.specs.Sequential.{sequential_changes};
 
 use crate::lanes::{Kept, Lanes, MOST_KEPT};
-use cart_replica::ProductCopy;
+use crate::pair::{Pair, version};
 use market_amounts::{ProductKey, RequestId};
 use market_events::{Ask, Change, Look, Reply, Request, Rule};
 use std::alloc::{AllocError, Global};
 
-/// The lanes, and the one copy of the products to which each accepted change is applied at once.
+/// The lanes, and the product and the cart, which takes the event of each accepted change at once.
 #[derive(Drop)]
 pub struct Hand {
     lanes: Lanes,
-    products: ProductCopy,
+    pair: Pair,
 }
 
 impl Hand {
@@ -31,7 +32,7 @@ impl Hand {
     {
         Hand {
             lanes: Lanes::new(alloc),
-            products: ProductCopy::new(alloc),
+            pair: Pair::new(alloc),
         }
     }
 
@@ -52,7 +53,7 @@ impl Hand {
         if !can_keep(&self.lanes, id) {
             return Ok(());
         }
-        let reply = answer(&mut self.products, &ask)?;
+        let reply = answer(&mut self.pair, &ask)?;
         self.lanes.keep(Kept {
             request: Request { id, ask },
             reply,
@@ -68,20 +69,36 @@ fn can_keep(lanes: &Lanes, id: RequestId) -> bool
     lanes.find(id).is_none() && lanes.has_room(id)
 }
 
-// The reply to a new request, whose change is applied.
-fn answer(products: &mut ProductCopy, ask: &Ask) -> Result<Reply, AllocError>
-    requires { look_version (look_at products.old (key_asked ask.now)) + 1 < 2 ^ 32 }
-    ensures reply { let look = look_at products.old (key_asked ask.now) in IfOk result (λ reply. reply ≡ reply_of ask.now look (look_version look)) }
-    ensures copies { let look = look_at products.old (key_asked ask.now) in OnOk result ((changes : List ProductChange) → IsCopyOf products.old changes
-        → IsCopyOf products.new (changes ++ change_list ask.now (look_version look + 1) (change_made ask.now look))) }
+// The reply to a new request, whose change is passed on.
+fn answer(pair: &mut Pair, ask: &Ask) -> Result<Reply, AllocError>
+    requires step { IsInStep pair.old }
+    requires few { length (made_events pair.old) < 2 ^ 31 }
+    requires version { look_version (look_at pair.old.looks (key_asked ask.now)) + 1 < 2 ^ 32 }
+    ensures reply { let look = look_at pair.old.looks (key_asked ask.now) in IfOk result (λ reply. reply ≡ reply_of ask.now look (look_version look)) }
+    ensures step { OnOk result (IsInStep pair.new) }
+    ensures changes { let changes = changes_of (made_events pair.old) in OnOk result (changes_of (made_events pair.new) ≡ changes ++ sequential_changes changes ask.now) }
 {
     let key = product_of(ask);
-    let look = products.look(key);
+    let look = pair.copy().look(key);
     let reply = reply_to(ask, &look);
     if let Some(change) = change_by(ask, &look) {
-        products.apply(key, version(&look) + 1, &change)?;
+        pass_on(pair, key, change)?;
     }
     Ok(reply)
+}
+
+// Makes the event of a change, which the cart takes.
+fn pass_on(pair: &mut Pair, key: ProductKey, change: Change) -> Result<(), AllocError>
+    requires step { IsInStep pair.old }
+    requires few { length (made_events pair.old) < 2 ^ 31 }
+    requires may { may_make (look_at pair.old.looks key) change ≡ true }
+    ensures step { OnOk result (IsInStep pair.new) }
+    ensures changes { let changes = changes_of (made_events pair.old) in OnOk result (changes_of (made_events pair.new)
+        ≡ changes ++ record { key = key; version = version_of changes key + 1; change = change } ∷ []) }
+{
+    let number = pair.make(key, change)?;
+    pair.offer(number)?;
+    Ok(())
 }
 
 // The product that a request is about.
@@ -93,20 +110,10 @@ fn product_of(ask: &Ask) -> ProductKey
     }
 }
 
-// How many changes a product had.
-fn version(look: &Look) -> u32
-    ensures { result ≡ look_version look.now }
-{
-    match look {
-        Look::Unknown => 0,
-        Look::Gone(version) | Look::Live(version, _, _) => *version,
-    }
-}
-
 // The change that a request makes of a product that shows this.
 fn change_by(ask: &Ask, look: &Look) -> Option<Change>
     ensures made { result ≡ change_made ask.now look.now }
-    ensures can { IfSome result (λ change. can_change look.now change ≡ true) }
+    ensures may { IfSome result (λ change. may_make look.now change ≡ true) }
 {
     match (ask, look) {
         (Ask::Create(_, price, freight), Look::Unknown | Look::Gone(_)) => {

@@ -8,6 +8,9 @@ mod input;
 mod lanes;
 pub mod laws;
 mod output;
+pub mod pair;
+#[cfg(test)]
+mod pair_tests;
 mod records;
 mod runs;
 mod statuses;
