@@ -5,7 +5,7 @@ use Rattle.std.proofs.lemmas.Bool.{eqb-true, and_parts}
 use Rattle.std.proofs.lemmas.List.Sums.{count_by-le-length}
 use Rattle.market_amounts.specs.declared.keys.ProductKey.{ProductKey}
 use Rattle.market_events.specs.declared.requests.Ask.{Ask}
-use Rattle.market_events.specs.declared.requests.Ask.TheVariants.{Create, Price, View}
+use Rattle.market_events.specs.declared.requests.Ask.TheVariants.{Create, Price, Delete, View, Line, Remove, Checkout, Stock, Level, Order, Card, Deliver, Customer, Dashboard}
 use Rattle.market_events.specs.declared.requests.Request.{Request}
 use Rattle.market_events.specs.declared.changes.Change.{Change}
 use Rattle.market_events.specs.declared.changes.Change.TheVariants as change
@@ -73,6 +73,17 @@ change_made-can (Price key price) Unknown c e = cc
 change_made-can (Price key price) (Gone v) c e = cc
 change_made-can (Price key price) (Live v p f) c e = let is : change.Priced price ≡ c = cc in rw (← is) refl
 change_made-can (View key) look c e = cc
+change_made-can (Delete key) look c e = cc
+change_made-can (Line customer key quantity voucher) look c e = cc
+change_made-can (Remove customer key) look c e = cc
+change_made-can (Checkout customer) look c e = cc
+change_made-can (Stock key pieces) look c e = cc
+change_made-can (Level key) look c e = cc
+change_made-can (Order checkout) look c e = cc
+change_made-can (Card customer limit) look c e = cc
+change_made-can Deliver look c e = cc
+change_made-can (Customer customer) look c e = cc
+change_made-can (Dashboard seller) look c e = cc
 
 pub look_version-after : (look : Look) (version : ℕ) (c : Change) → look_version (look_after look version c) ≡ version
 look_version-after look version (change.Created p f) = refl

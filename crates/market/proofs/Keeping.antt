@@ -1,9 +1,9 @@
 -- How the lanes find what they keep: what a place gives, and one request more.
-use Rattle.std.proofs.Common.{◌≡◌, ℕ, ◌+◌, ◌<◌, ◌≤◌, Bool, true, false, cond, List, [], ◌∷◌, ◌++◌, Option, None, Some, length, get_or, ◌==◌, nat_lt, ◌&&◌, find, refl, sym, ap, ◌∙◌, arith}
+use Rattle.std.proofs.Common.{◌≡◌, ℕ, ◌+◌, ◌<◌, ◌≤◌, Bool, true, false, cond, List, [], ◌∷◌, ◌++◌, Option, None, Some, length, get_or, ◌==◌, nat_lt, ◌&&◌, find, IfSome, refl, sym, ap, ◌∙◌, arith}
 use Rattle.std.proofs.Math.ListN.{set}
 use Rattle.std.specs.Ordering.{is_eq, nat_cmp, ordering_then}
 use Rattle.std.specs.BTreeMap.{is_at}
-use Rattle.std.specs.List.{position, position_or_len, slice_get}
+use Rattle.std.specs.List.{position, position_or_len, slice_get, AllByRecursion}
 use Rattle.std.specs.Option.{option_copied, option_or}
 use denote.Bor.{Bor}
 use Rattle.std.specs.Slice.{IsItemAt}
@@ -16,7 +16,7 @@ use Rattle.std.proofs.lemmas.Option.{slice_get_past, slice_get_read, gets}
 use Rattle.market_amounts.specs.declared.keys.RequestId.{RequestId}
 use Rattle.market_events.specs.Requests.{lanes, lane_of, same_id}
 use Rattle.market.specs.declared.lanes.Kept.{Kept}
-use Rattle.market.specs.Lanes.{kept_at, place_of, count_of_lane, id_cmp, place_at, AreLanesOf}
+use Rattle.market.specs.Lanes.{kept_at, place_of, count_of_lane, id_cmp, place_at, AreLanesOf, IsFormed}
 
 -- ids that compare alike are the same
 
@@ -114,13 +114,32 @@ counted-push : (kept : List Kept) (counts : List ℕ) (k : Kept) (lane : ℕ) �
 counted-push kept counts k lane is within counted other h =
     rw (sum_by_push, ← counted other h, ← is) (count_one counts lane other within)
 
+-- well-formed replies stay so, and one that is found is well formed
+
+formed-push : (kept : List Kept) (k : Kept) → AllByRecursion IsFormed kept → IsFormed k → AllByRecursion IsFormed (kept ++ k ∷ [])
+formed-push [] k all formed = (formed, tt)
+formed-push (x ∷ xs) k all formed = (all.0, formed-push xs k all.1 formed)
+
+pub formed_at : (kept : List Kept) (id : RequestId) → AllByRecursion IsFormed kept → IfSome (kept_at kept id) IsFormed
+formed_at [] id all = tt
+formed_at (x ∷ xs) id all = by_test (same_id x.request.id id) (formed_at xs id all.1)
+  where
+    by_test : (b : Bool) → IfSome (kept_at xs id) IsFormed → IfSome (cond b (Some x) (kept_at xs id)) IsFormed
+    by_test true rest = all.0
+    by_test false rest = rest
+
+pub if_copied : (P : Kept → Type 0) (r : Option (Bor Kept)) → IfSome (option_copied r) P → IfSome r (λ k. P k.now)
+if_copied P None h = tt
+if_copied P (Some k) h = h
+
 -- with a new id at the end, and one more in its lane, the places and counts are those of the longer list
 pub one_kept : (kept new : List Kept) (places after : List (RequestId × ℕ)) (counts : List ℕ) (k : Kept) (lane : ℕ)
     → kept_at kept k.request.id ≡ None → new ≡ kept ++ k ∷ []
     → ((id : RequestId) → place_at after id ≡ cond (is_at (id_cmp k.request.id) id) (Some (length kept)) (place_at places id))
-    → lane ≡ lane_of k.request.id → lane < length counts
+    → lane ≡ lane_of k.request.id → lane < length counts → IsFormed k
     → AreLanesOf kept places counts → AreLanesOf new after (set counts lane (get_or counts lane 0 + 1))
-one_kept kept new places after counts k lane fresh pushed set is within before = record {
+one_kept kept new places after counts k lane fresh pushed set is within formed before = record {
   found = λ id. rw pushed (found-push kept places after k fresh set before.found id);
+  formed = rw pushed (formed-push kept k before.formed formed);
   counted = λ other h. rw pushed (counted-push kept counts k lane is within before.counted other h);
 }

@@ -13,8 +13,7 @@ use Rattle.market_amounts.specs.declared.keys.ProductKey.{ProductKey}
 use Rattle.market_events.specs.declared.changes.Change.{Change}
 use Rattle.market_events.specs.declared.changes.Change.TheVariants.{Created, Priced, Deleted}
 use Rattle.market_events.specs.declared.changes.Look.{Look}
-use Rattle.market_events.specs.declared.events.Body.{Body}
-use Rattle.market_events.specs.declared.events.Body.TheVariants.{Changed}
+use Rattle.market_events.specs.declared.bodies.Body.{Body}
 use Rattle.market_events.specs.declared.events.Entry.{Entry}
 use Rattle.market_events.specs.declared.events.Event.{Event}
 use Rattle.market_events.specs.declared.events.Offer.{Offer}
@@ -23,6 +22,8 @@ use Rattle.market_events.specs.declared.links.Link.{Link}
 use Rattle.market_events.specs.declared.links.Link.TheVariants.{Service}
 use Rattle.market_events.specs.declared.links.TheConstants.{SERVICE_LINKS}
 use Rattle.market_events.specs.Requests.{same_key}
+use Rattle.market_events.specs.Carried.{carries}
+use Rattle.market_events.specs.WellFormed.{IsBody}
 use Rattle.market_events.specs.Copies.{ProductChange, copy_of, version_of}
 use Rattle.market_events.specs.Counts.{with_raised}
 use Rattle.market_events.specs.Links.{IsLink, cart_node, same_link, sender_of, receiver_of}
@@ -30,7 +31,7 @@ use Rattle.market_events.specs.Looks.{look_version, can_change}
 use Rattle.market_events.specs.Offers.{taken_on, counts_of, is_met, is_ready, offer_by, offer_of}
 use Rattle.market_events.proofs.OfferLaws.{length-counts_of, slice_index-counts_of, is_ready-true, taken_on-push}
 use Rattle.market_history.specs.Causality.{known, past_of}
-use Rattle.market_history.specs.Journals.{IsEntry, IsEvent, can_carry}
+use Rattle.market_history.specs.Journals.{IsEntry, IsEvent, AsksOwn}
 use Rattle.market_history.specs.Sent as of_link
 use Rattle.market_history.specs.Stamps.{EachAfter, clock_before}
 use Rattle.market_history.proofs.CausalityLaws.{known-push, length-past_of, slice_index-past_of, HasPasts-push}
@@ -112,17 +113,21 @@ counts_of-push taken event link number =
     lengths = length-with_raised (counts_of taken) event.number ∙ length-counts_of taken ∙ sym (length-counts_of (taken ++ event ∷ []))
 
 -- a change may stand on link 0
-carries : (link : Link) (body : Body) → link ≡ Service 0 → can_carry link body
-carries link (Changed key version change) e = subst (λ l. can_carry l (Changed key version change)) (sym e) (lit≤ tt)
+carries_on : (link : Link) (body : Body) → link ≡ Service 0 → carries (Service 0) body ≡ true → carries link body ≡ true
+carries_on link body e is = subst (λ l. carries l body ≡ true) (sym e) is
+
+asks_none : (link : Link) (body : Body) → link ≡ Service 0 → AsksOwn link body
+asks_none link body e = subst (λ l. AsksOwn l body) (sym e) tt
 
 -- the numbers of an event on link 0 in their ranges
-event_fits : (event : Event) → event.link ≡ Service 0 → 1 ≤ event.number → event.number < 2 ^ 32 → event.clock ≤ 2 ^ 62 → IsEvent event
-event_fits event link low high clock = record {
+event_fits : (event : Event) → event.link ≡ Service 0 → carries (Service 0) event.body ≡ true → 1 ≤ event.number → event.number < 2 ^ 32 → event.clock ≤ 2 ^ 62 → IsEvent event
+event_fits event link changed low high clock = record {
   link = subst IsLink (sym link) (lit< tt);
   number_low = low;
   number_high = high;
   clock_high = clock;
-  body = carries event.link event.body link;
+  body = carries_on event.link event.body link changed;
+  own = asks_none event.link event.body link;
 }
 
 -- the number of the event at a place
@@ -211,12 +216,14 @@ module _ (sent got : List Entry) (looks made : List (ProductKey × Look)) (knows
   )
 
   -- the event that the product makes next
-  pub made_next : (event : Event) → event.link ≡ Service 0 → event.number ≡ length sent + 1 → event.clock ≡ clock_before sent + 1 → event.past ≡ knows
+  pub made_next : (event : Event) → event.link ≡ Service 0 → carries (Service 0) event.body ≡ true → IsBody event.body → event.number ≡ length sent + 1 → event.clock ≡ clock_before sent + 1 → event.past ≡ knows
       → (change_told event.body).version ≡ look_version (look_at made (change_told event.body).key) + 1
       → may_make (copy_of (changes_of (events_of sent)) (change_told event.body).key) (change_told event.body).change ≡ true
       → IsNext (events_of sent) event
-  made_next event link number clock past version may = record {
+  made_next event link changed formed number clock past version may = record {
     link = link;
+    changed = changed;
+    formed = formed;
     number = number ∙ ap (λ n. n + 1) length_made;
     clock = clock ∙ ap (λ n. n + 1) (k.sent_clock ∙ length_made);
     version = version ∙ ap (λ look. look_version look + 1) (k.made_copied (change_told event.body).key);
@@ -233,10 +240,11 @@ module _ (sent got : List Entry) (looks made : List (ProductKey × Look)) (knows
       let high : event.number < 2 ^ 32 = omega (arith, next.number) in
       let clock : event.clock ≤ 2 ^ 62 = omega (arith, next.clock) in
       record {
+        formed = record { what = record { body = next.formed } };
         node_high = lit≤ tt;
         place_high = omega (arith, length_made);
         clock_high = clock;
-        what = (event_fits event next.link low high clock, ap sender_of next.link, refl);
+        what = (event_fits event next.link next.changed low high clock, ap sender_of next.link, refl);
       }
 
   pub keeps_made : (event : Event) (after : List (ProductKey × Look)) → IsNext (events_of sent) event → event.past ≡ knows → length (events_of sent) < 2 ^ 31
@@ -316,6 +324,9 @@ module _ (sent got : List Entry) (looks made : List (ProductKey × Look)) (knows
   pub taken_version : (event : Event) → IsNext (taken_of got) event → (change_told event.body).version ≡ look_version (look_at looks (change_told event.body).key) + 1
   taken_version event next = next.version ∙ ap (λ look. look_version look + 1) (sym (k.pair.copied (change_told event.body).key))
 
+  pub taken_changed : (event : Event) → IsNext (taken_of got) event → carries (Service 0) event.body ≡ true
+  taken_changed event next = next.changed
+
   pub taken_can : (event : Event) → IsNext (taken_of got) event → can_change (look_at looks (change_told event.body).key) (change_told event.body).change ≡ true
   taken_can event next =
       ap (λ look. can_change look (change_told event.body).change) (k.pair.copied (change_told event.body).key)
@@ -331,10 +342,11 @@ module _ (sent got : List Entry) (looks made : List (ProductKey × Look)) (knows
       let before : clock_before got ≤ 2 ^ 31 = omega (arith, k.got_clock, k.each_taken) in
       let clock_high : event.clock ≤ 2 ^ 62 = omega arith in
       record {
+        formed = record { what = record { body = next.formed } };
         node_high = lit≤ tt;
         place_high = omega (arith, k.each_taken);
         clock_high = omega arith;
-        what = (event_fits event next.link low high clock_high, ap receiver_of next.link);
+        what = (event_fits event next.link next.changed low high clock_high, ap receiver_of next.link);
       }
 
   pub keeps_taken : (event : Event) (after : List (ProductKey × Look)) → slice_get (events_of sent) (length (taken_of got)) ≡ Some event

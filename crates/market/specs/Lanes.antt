@@ -3,9 +3,11 @@ use Rattle.std.specs.Prelude.{◌≡◌, ℕ, ◌<◌, List, Option, ◌==◌, f
 use Rattle.std.specs.Ordering.{nat_cmp, ordering_then}
 use Rattle.std.specs.declared.cmp.Ordering.{Ordering}
 use Rattle.std.specs.BTreeMap.{is_at}
+use Rattle.std.specs.List.{AllByRecursion}
 use Rattle.std.specs.Map.{lookup}
 use Rattle.market_amounts.specs.declared.keys.RequestId.{RequestId}
 use Rattle.market_events.specs.Requests.{lanes, lane_of, same_id}
+use Rattle.market_events.specs.WellFormed.{IsReply}
 use Rattle.market.specs.declared.lanes.Kept.{Kept}
 
 -- the kept request with this id
@@ -32,7 +34,12 @@ id_cmp a b = ordering_then (nat_cmp a.caller b.caller) (nat_cmp a.number b.numbe
 abbrev pub place_at : List (RequestId × ℕ) → RequestId → Option ℕ
 place_at places id = lookup (is_at (id_cmp id)) places
 
--- the places tell where each id stands, and the counts how many each lane keeps
+-- the reply of a kept request is well formed
+abbrev pub IsFormed : Kept → Type 0
+IsFormed kept = IsReply kept.reply
+
+-- the places tell where each id stands, the replies are well formed, and the counts tell how many each lane keeps
 pub record AreLanesOf (kept : List Kept) (places : List (RequestId × ℕ)) (counts : List ℕ) : Type 0 where
   pub found : (id : RequestId) → place_at places id ≡ place_of kept id
+  pub formed : AllByRecursion IsFormed kept
   pub counted : (lane : ℕ) → lane < lanes → slice_index counts lane ≡ count_of_lane kept lane

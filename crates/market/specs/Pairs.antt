@@ -4,13 +4,15 @@ use Rattle.market_amounts.specs.declared.keys.ProductKey.{ProductKey}
 use Rattle.market_events.specs.declared.changes.Change.{Change}
 use Rattle.market_events.specs.declared.changes.Change.TheVariants.{Created, Priced, Deleted}
 use Rattle.market_events.specs.declared.changes.Look.{Look}
-use Rattle.market_events.specs.declared.events.Body.{Body}
-use Rattle.market_events.specs.declared.events.Body.TheVariants.{Changed}
+use Rattle.market_events.specs.declared.bodies.Body.{Body}
+use Rattle.market_events.specs.declared.bodies.Body.TheVariants.{Changed}
 use Rattle.market_events.specs.declared.events.Entry.{Entry}
 use Rattle.market_events.specs.declared.events.Event.{Event}
 use Rattle.market_events.specs.declared.events.What.TheVariants.{Taken, Made}
 use Rattle.market_events.specs.declared.links.Link.TheVariants.{Service}
 use Rattle.market_events.specs.declared.links.TheConstants.{SERVICE_LINKS}
+use Rattle.market_events.specs.Carried.{carries}
+use Rattle.market_events.specs.WellFormed.{IsBody}
 use Rattle.market_events.specs.Copies.{ProductChange, copy_of, version_of}
 use Rattle.market_events.specs.Links.{product_node, cart_node}
 use Rattle.market_events.specs.Looks.{is_live, look_version}
@@ -35,9 +37,10 @@ made_events state = of_link.sent (Service 0) state.sent
 abbrev pub taken_events : PairState → List Event
 taken_events state = of_link.got (Service 0) state.got
 
--- the change that a body tells
+-- the change that a body tells; a body of another kind, which link 0 does not carry, tells none of any product's own
 abbrev pub change_told : Body → ProductChange
 change_told (Changed key version change) = record { key = key; version = version; change = change }
+change_told other = record { key = record { seller = 0; product = 0 }; version = 0; change = Deleted }
 
 -- the changes that the events tell, in order
 abbrev pub changes_of : List Event → List ProductChange
@@ -79,9 +82,11 @@ abbrev pub taken_entry : List Entry → Event → Entry
 taken_entry before event = record { clock = stamp_of (clock_before before) (Taken event); what = Taken event }
 
 -- the event may be made after these: on link 0, its number and its clock the next, with the next version and a change
--- that may come then, resting on none but these
+-- that may come then, well formed, resting on none but these
 pub record IsNext (before : List Event) (event : Event) : Type 0 where
   pub link : event.link ≡ Service 0
+  pub changed : carries (Service 0) event.body ≡ true
+  pub formed : IsBody event.body
   pub number : event.number ≡ length before + 1
   pub clock : event.clock ≡ length before + 1
   pub version : (change_told event.body).version ≡ look_version (copy_of (changes_of before) (change_told event.body).key) + 1

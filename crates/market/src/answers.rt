@@ -1,6 +1,8 @@
 //! The text of a run: an answer line for each request, and the lines that count.
 
 ghost use Rattle.std.specs.Prelude.{◌≡◌, ◌<◌, ◌++◌, ◌^◌, IfOk, OnOk, length};
+ghost use Rattle.std.specs.List.{All};
+ghost use Rattle.market_events.specs.Answers.{IsRun};
 ghost use Rattle.market_events.specs.Texts.{text_of_reply};
 ghost use Rattle.market.specs.Hand.{Stands};
 ghost use Rattle.market.specs.Once.{answer_for};
@@ -13,7 +15,8 @@ use std::alloc::{AllocError, Global};
 
 /// What a run of these requests writes.
 pub fn run_text(alloc: Global, requests: &[Request]) -> Result<Vec<u8>, AllocError>
-    requires { length requests.now < 2 ^ 31 }
+    requires few { length requests.now < 2 ^ 31 }
+    requires run { All IsRun requests.now }
     ensures { IfOk result (λ text. text.items ≡ run_output requests.now) }
 {
     let hand = taken(alloc, requests)?;
@@ -22,7 +25,8 @@ pub fn run_text(alloc: Global, requests: &[Request]) -> Result<Vec<u8>, AllocErr
 
 // All requests, taken in one after the other.
 fn taken(alloc: Global, requests: &[Request]) -> Result<Hand, AllocError>
-    requires { length requests.now < 2 ^ 31 }
+    requires few { length requests.now < 2 ^ 31 }
+    requires run { All IsRun requests.now }
     ensures { IfOk result (λ hand. Stands hand requests.now) }
 {
     let mut hand = Hand::new(alloc);

@@ -2,9 +2,10 @@
 
 ghost use Rattle.std.specs.Prelude.{◌≡◌, ◌+◌, ◌<◌, ◌^◌, List, [], ◌∷◌, ◌++◌, true, not, is_some, ◌&&◌, nat_lt, IfOk, IfSome, OnOk, length};
 ghost use Rattle.market_events.specs.declared.requests.Request.{Request};
-ghost use Rattle.market_events.specs.Answers.{key_asked, reply_of, change_made};
+ghost use Rattle.market_events.specs.Answers.{is_run, IsRun, key_asked, reply_of, change_made};
 ghost use Rattle.market_events.specs.Copies.{version_of};
 ghost use Rattle.market_events.specs.Looks.{look_version};
+ghost use Rattle.market_events.specs.WellFormed.{IsReply};
 ghost use Rattle.cart_replica.specs.Copy.{look_at};
 ghost use Rattle.market.specs.Lanes.{kept_at, count_in_lane};
 ghost use Rattle.market.specs.Pairs.{IsInStep, made_events, changes_of, may_make};
@@ -12,7 +13,7 @@ ghost use Rattle.market.specs.Sequential.{sequential_changes};
 
 use crate::lanes::{Kept, Lanes, MOST_KEPT};
 use crate::pair::{Pair, version};
-use market_amounts::{ProductKey, RequestId};
+use market_amounts::{Cents, ProductKey, RequestId};
 use market_events::{Ask, Change, Look, Reply, Request, Rule};
 use std::alloc::{AllocError, Global};
 
@@ -43,10 +44,11 @@ impl Hand {
         &self.lanes
     }
 
-    /// Takes a request in: it is kept and answered, unless its id is kept or its lane has no room. After want of
-    /// memory this is given up.
+    /// Takes a request in, which requires a creation, a price or a view: it is kept and answered, unless its id is kept
+    /// or its lane has no room. After want of memory this is given up.
     pub fn take(&mut self, request: &Request) -> Result<(), AllocError>
-        requires { (given : List Request) × Stands self.old given × (length given < 2 ^ 31) }
+        requires run { IsRun request.now }
+        requires stands { (given : List Request) × Stands self.old given × (length given < 2 ^ 31) }
         ensures { OnOk result ((given : List Request) → Stands self.old given → Stands self.new (given ++ request.now ∷ [])) }
     {
         let Request { id, ask } = *request;
@@ -71,10 +73,12 @@ fn can_keep(lanes: &Lanes, id: RequestId) -> bool
 
 // The reply to a new request, whose change is passed on.
 fn answer(pair: &mut Pair, ask: &Ask) -> Result<Reply, AllocError>
+    requires run { is_run ask.now ≡ true }
     requires step { IsInStep pair.old }
     requires few { length (made_events pair.old) < 2 ^ 31 }
     requires version { look_version (look_at pair.old.looks (key_asked ask.now)) + 1 < 2 ^ 32 }
     ensures reply { let look = look_at pair.old.looks (key_asked ask.now) in IfOk result (λ reply. reply ≡ reply_of ask.now look (look_version look)) }
+    ensures formed { IfOk result IsReply }
     ensures step { OnOk result (IsInStep pair.new) }
     ensures changes { let changes = changes_of (made_events pair.old) in OnOk result (changes_of (made_events pair.new) ≡ changes ++ sequential_changes changes ask.now) }
 {
@@ -103,10 +107,12 @@ fn pass_on(pair: &mut Pair, key: ProductKey, change: Change) -> Result<(), Alloc
 
 // The product that a request is about.
 fn product_of(ask: &Ask) -> ProductKey
+    requires { is_run ask.now ≡ true }
     ensures { result ≡ key_asked ask.now }
 {
     match ask {
         Ask::Create(key, _, _) | Ask::Price(key, _) | Ask::View(key) => *key,
+        _ => unreachable!(),
     }
 }
 
@@ -126,8 +132,10 @@ fn change_by(ask: &Ask, look: &Look) -> Option<Change>
 
 // The reply to a request about a product that shows this.
 fn reply_to(ask: &Ask, look: &Look) -> Reply
-    requires { look_version look.now + 1 < 2 ^ 32 }
-    ensures { result ≡ reply_of ask.now look.now (look_version look.now) }
+    requires run { is_run ask.now ≡ true }
+    requires version { look_version look.now + 1 < 2 ^ 32 }
+    ensures value { result ≡ reply_of ask.now look.now (look_version look.now) }
+    ensures formed { IsReply result }
 {
     match (ask, look) {
         (Ask::Create(..), Look::Live(..)) => Reply::Refused(Rule::Exists),
@@ -135,8 +143,15 @@ fn reply_to(ask: &Ask, look: &Look) -> Reply
         (_, Look::Unknown) => Reply::Refused(Rule::Unknown),
         (_, Look::Gone(_)) => Reply::Refused(Rule::Gone),
         (Ask::Price(..), Look::Live(version, _, _)) => Reply::Priced(*version + 1),
-        (Ask::View(_), Look::Live(version, price, freight)) => Reply::View(
-            *version, *price, *freight,
-        ),
+        (Ask::View(_), Look::Live(version, price, freight)) => view(*version, *price, *freight),
+        _ => unreachable!(),
     }
+}
+
+// What is seen of a product that is there.
+fn view(version: u32, price: Cents, freight: Cents) -> Reply
+    ensures value { result ≡ Reply.View version price freight }
+    ensures formed { IsReply result }
+{
+    Reply::View(version, price, freight)
 }

@@ -1,9 +1,9 @@
 //! The sixteen lanes, which keep requests for good.
 
-ghost use Rattle.std.specs.Prelude.{◌≡◌, ◌<◌, [], ◌∷◌, ◌++◌, None, OnOk, OnErr, nat_lt, length};
+ghost use Rattle.std.specs.Prelude.{◌≡◌, ◌<◌, [], ◌∷◌, ◌++◌, None, IfSome, OnOk, OnErr, nat_lt, length};
 ghost use Rattle.std.specs.Option.{option_copied};
 ghost use Rattle.market_events.specs.Requests.{lane_of};
-ghost use Rattle.market.specs.Lanes.{kept_at, count_in_lane};
+ghost use Rattle.market.specs.Lanes.{kept_at, count_in_lane, IsFormed};
 
 use market_amounts::RequestId;
 use market_events::{Reply, Request};
@@ -66,7 +66,8 @@ impl Lanes {
 
     /// The kept request with this id, if there is one.
     pub fn find(&self, id: RequestId) -> Option<&Kept>
-        ensures { option_copied result ≡ kept_at self.now id }
+        ensures found { option_copied result ≡ kept_at self.now id }
+        ensures formed { IfSome result (λ kept. IsFormed kept.now) }
     {
         let place = *self.places.get(&id)?;
         self.kept.get(place)
@@ -79,8 +80,10 @@ impl Lanes {
         self.counts[lane(id)] < MOST_KEPT
     }
 
-    /// Keeps a request with a new id, for which its lane has room. On want of memory nothing changes.
+    /// Keeps a request with a new id, for which its lane has room, and its well-formed reply. On want of memory nothing
+    /// changes.
     pub fn keep(&mut self, kept: Kept) -> Result<(), AllocError>
+        requires formed { IsFormed kept }
         requires new_id { kept_at self.old kept.request.id ≡ None }
         requires room { count_in_lane self.old kept.request.id < MOST_KEPT }
         ensures ok { OnOk result (self.new ≡ self.old ++ kept ∷ []) }

@@ -4,6 +4,8 @@
 ghost use Rattle.std.specs.Prelude.{◌≡◌, ◌≢◌, ℕ, ◌+◌, ◌-◌, ◌^◌, ◌<◌, ◌≤◌, ◌↔◌, ◌⊎◌, List, [], ◌∷◌, ◌++◌, true, length, map, slice_get, IsNone, IfOk, IfSome, OnOk, OnErr};
 ghost use Rattle.market_amounts.specs.declared.keys.ProductKey.{ProductKey};
 ghost use Rattle.market_events.specs.declared.events.Event.{Event};
+ghost use Rattle.market_events.specs.Carried.{carries};
+ghost use Rattle.market_events.specs.WellFormed.{IsBody};
 ghost use Rattle.market_events.specs.Copies.{ProductChange, copy_of, version_of};
 ghost use Rattle.market_events.specs.Counts.{with_raised};
 ghost use Rattle.market_events.specs.Links.{cart_node};
@@ -109,7 +111,7 @@ impl Pair {
             number: self.sent.entries().len() as u32 + 1,
             clock: last_clock(self.sent.entries()) + 1,
             past: self.known,
-            body: Body::Changed(key, version(&self.made.look(key)) + 1, change),
+            body: changed(key, version(&self.made.look(key)) + 1, change),
         };
         let number = event.number;
         add_made(&mut self.sent, &mut self.made, &mut self.known, event)?;
@@ -185,6 +187,14 @@ impl Pair {
     }
 }
 
+// The body that tells a change.
+fn changed(key: ProductKey, version: u32, change: Change) -> Body
+    ensures value { result ≡ Body.Changed key version change }
+    ensures formed { IsBody result }
+{
+    Body::Changed(key, version, change)
+}
+
 // Adds an event that the product makes to its journal, its copy and what it knows.
 fn add_made(
     sent: &mut Journal,
@@ -193,6 +203,7 @@ fn add_made(
     event: Event,
 ) -> Result<(), AllocError>
     requires entry { IsEntry sent.old.node (length sent.old.entries) (made_entry event) }
+    requires changed { carries (Link.Service 0) event.body ≡ true }
     requires next { let told = change_told event.body in told.version ≡ look_version (look_at made.old told.key) + 1 }
     requires can { let told = change_told event.body in can_change (look_at made.old told.key) told.change ≡ true }
     ensures node { sent.new.node ≡ sent.old.node }
@@ -226,6 +237,7 @@ fn add_taken(
     event: Event,
 ) -> Result<(), AllocError>
     requires entry { IsEntry got.old.node (length got.old.entries) (taken_entry got.old.entries event) }
+    requires changed { carries (Link.Service 0) event.body ≡ true }
     requires next { let told = change_told event.body in told.version ≡ look_version (look_at copy.old told.key) + 1 }
     requires can { let told = change_told event.body in can_change (look_at copy.old told.key) told.change ≡ true }
     requires room { receiver.old < 4294967295 }
@@ -256,6 +268,7 @@ fn add_taken(
 
 // Applies the change that a body tells.
 fn apply(copy: &mut ProductCopy, body: &Body) -> Result<(), AllocError>
+    requires changed { carries (Link.Service 0) body.now ≡ true }
     requires next { let told = change_told body.now in told.version ≡ look_version (look_at copy.old told.key) + 1 }
     requires can { let told = change_told body.now in can_change (look_at copy.old told.key) told.change ≡ true }
     ensures copies { OnOk result ((changes : List ProductChange) → IsCopyOf copy.old changes → IsCopyOf copy.new (changes ++ change_told body.now ∷ [])) }
@@ -263,6 +276,7 @@ fn apply(copy: &mut ProductCopy, body: &Body) -> Result<(), AllocError>
 {
     match body {
         Body::Changed(key, version, change) => copy.apply(*key, *version, change),
+        _ => unreachable!(),
     }
 }
 

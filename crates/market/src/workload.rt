@@ -4,6 +4,8 @@ ghost use Rattle.std.specs.Prelude.{◌≡◌, ◌≤◌, Ok, IfOk, MatchResult,
 ghost use Rattle.csv.specs.Records.{fields_of};
 ghost use Rattle.market_events.specs.Workload.{request_of};
 ghost use Rattle.market.specs.declared.workload.WorkFault.TheVariants.{OutOfMemory};
+ghost use Rattle.std.specs.List.{All};
+ghost use Rattle.market_events.specs.Answers.{IsRun};
 ghost use Rattle.market.specs.Workload.{workload_of, at_record, TellsFault};
 
 use crate::input::MOST_BYTES;
@@ -53,6 +55,7 @@ pub fn read_workload(alloc: Global, text: &[u8]) -> Result<Vec<Request>, WorkFau
     requires { length text.now ≤ MOST_BYTES }
     ensures said { MatchResult result (λ requests. workload_of text.now ≡ Ok requests.items) (TellsFault (workload_of text.now)) }
     ensures few { IfOk result (λ requests. vec_len requests ≤ MOST_BYTES) }
+    ensures run { IfOk result (λ requests. All IsRun requests.items) }
 {
     let mut reader = open_records(alloc, text);
     let mut row = ByteRecord::new(alloc);
@@ -68,8 +71,9 @@ pub fn read_workload(alloc: Global, text: &[u8]) -> Result<Vec<Request>, WorkFau
 
 // The request of one record.
 fn read_row(alloc: Global, row: &ByteRecord, number: u32) -> Result<Request, WorkFault>
-    ensures { MatchResult result (λ request. at_record number (request_of (fields_of row.now)) ≡ Ok request)
+    ensures said { MatchResult result (λ request. at_record number (request_of (fields_of row.now)) ≡ Ok request)
         (TellsFault (at_record number (request_of (fields_of row.now)))) }
+    ensures run { IfOk result IsRun }
 {
     let fields = fields(alloc, row)?;
     match read_fields(&fields) {

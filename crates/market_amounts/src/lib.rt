@@ -12,4 +12,4 @@ mod tests;
 pub use amounts::{AmountError, Cents, Quantity, line_amount};
 pub use keys::{CheckoutId, ProductKey, RequestId};
 pub use lists::List;
-pub use numbers::{NumberError, read_number};
+pub use numbers::{NumberError, read_number, read_wide_number};

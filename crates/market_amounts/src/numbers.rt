@@ -34,6 +34,16 @@ pub fn read_number(text: &[u8], limit: u64) -> Result<u64, NumberError>
     ensures spelled { IfOk result (λ n. text.now ≡ decimal n) }
     ensures reads { (n : ℕ) → text.now ≡ decimal n → n ≤ limit → result ≡ Ok n }
 {
+    let number = read_wide_number(text, u128::from(limit))?;
+    u64::try_from(number).map_err(|_| NumberError::TooLarge)
+}
+
+/// As `read_number`, for numbers of up to 128 bits.
+pub fn read_wide_number(text: &[u8], limit: u128) -> Result<u128, NumberError>
+    ensures exact { result ≡ number_of text.now limit }
+    ensures spelled { IfOk result (λ n. text.now ≡ decimal n) }
+    ensures reads { (n : ℕ) → text.now ≡ decimal n → n ≤ limit → result ≡ Ok n }
+{
     if text.is_empty() {
         return Err(NumberError::Empty);
     }
@@ -51,7 +61,7 @@ fn first_other(text: &[u8]) -> Option<usize>
 }
 
 // What a text of digits says.
-fn number_in(digits: &[u8], limit: u64) -> Result<u64, NumberError>
+fn number_in(digits: &[u8], limit: u128) -> Result<u128, NumberError>
     requires { position (λ byte. not (is_ascii_digit byte)) digits.now ≡ None }
     ensures { result ≡ number_in_digits digits.now limit }
 {
@@ -62,15 +72,15 @@ fn number_in(digits: &[u8], limit: u64) -> Result<u64, NumberError>
 }
 
 // What the digits stand for, where it is within the limit.
-fn value_within(digits: &[u8], limit: u64) -> Option<u64>
+fn value_within(digits: &[u8], limit: u128) -> Option<u128>
     requires { position (λ byte. not (is_ascii_digit byte)) digits.now ≡ None }
     ensures { result ≡ (if nat_lt limit (digits_value 10 digits.now) then None else Some (digits_value 10 digits.now)) }
 {
-    let mut value: u64 = 0;
+    let mut value: u128 = 0;
     for digit in digits {
         value = value
             .checked_mul(10)?
-            .checked_add(u64::from(*digit - b'0'))?;
+            .checked_add(u128::from(*digit - b'0'))?;
     }
     if value > limit { None } else { Some(value) }
 }

@@ -2,7 +2,7 @@
 
 use crate::{
     AmountError, Cents, List, NumberError, ProductKey, Quantity, RequestId, line_amount,
-    read_number,
+    read_number, read_wide_number,
 };
 use std::cmp::Ordering;
 use std::test::Fail;
@@ -67,6 +67,30 @@ fn numbers_are_read(rt: HostRuntime) {
         ("18446744073709551616", u64::MAX, Err(NumberError::TooLarge)),
     ] {
         assert_eq!(rt; read_number(text.as_bytes(), limit), number, "at {text}");
+    }
+}
+
+#[test]
+fn wide_numbers_are_read(rt: HostRuntime) {
+    for (text, number) in [
+        ("", Err(NumberError::Empty)),
+        ("007", Err(NumberError::LeadingZero)),
+        ("0", Ok(0)),
+        ("340282366920938463463374607431768211455", Ok(u128::MAX)),
+        (
+            "340282366920938463463374607431768211456",
+            Err(NumberError::TooLarge),
+        ),
+        (
+            "1000000000000000000000000000000000000000",
+            Err(NumberError::TooLarge),
+        ),
+    ] {
+        assert_eq!(rt;
+            read_wide_number(text.as_bytes(), u128::MAX),
+            number,
+            "at {text}"
+        );
     }
 }
 

@@ -1,6 +1,5 @@
 -- Records and arguments of another number than they should have.
 use Rattle.std.proofs.Common.{◌≡◌, ◌≢◌, ◌<◌, ℕ, List, [], ◌∷◌, length, Result, Err, refl, arith}
-use Rattle.market_events.specs.declared.requests.Request.{Request}
 use Rattle.market_events.specs.declared.workload.WorkRule.{WorkRule}
 use Rattle.market_events.specs.declared.workload.WorkRule.TheVariants as broken
 use Rattle.std.proofs.lemmas.List.{length-map}

@@ -4,7 +4,7 @@ use Rattle.market_events.specs.declared.links.TheConstants.{SERVICE_LINKS}
 use Rattle.market_events.specs.declared.links.Link.{Link}
 use Rattle.market_events.specs.declared.links.Link.TheVariants.{Service, Asked, Told}
 use Rattle.market_events.specs.declared.requests.Ask.{Ask}
-use Rattle.market_events.specs.declared.requests.Ask.TheVariants.{Create, Price, View}
+use Rattle.market_events.specs.declared.requests.Ask.TheVariants as ask
 
 -- the numbers of the services
 abbrev pub cart_node : ℕ
@@ -74,6 +74,17 @@ same_link a b = false
 
 -- the service that a request is for
 abbrev pub service_by_ask : Ask → ℕ
-service_by_ask (Create key price freight) = product_node
-service_by_ask (Price key price) = product_node
-service_by_ask (View key) = cart_node
+service_by_ask (ask.Create key price freight) = product_node
+service_by_ask (ask.Price key price) = product_node
+service_by_ask (ask.Delete key) = product_node
+service_by_ask (ask.View key) = cart_node
+service_by_ask (ask.Line customer key quantity voucher) = cart_node
+service_by_ask (ask.Remove customer key) = cart_node
+service_by_ask (ask.Checkout customer) = cart_node
+service_by_ask (ask.Stock key pieces) = stock_node
+service_by_ask (ask.Level key) = stock_node
+service_by_ask (ask.Order checkout) = order_node
+service_by_ask (ask.Card customer limit) = payment_node
+service_by_ask ask.Deliver = shipment_node
+service_by_ask (ask.Customer customer) = customer_node
+service_by_ask (ask.Dashboard seller) = seller_node

@@ -2,31 +2,13 @@
 
 ghost use Rattle.std.specs.Prelude.{◌≡◌, IfOk};
 
-use crate::changes::Change;
+use crate::bodies::Body;
 use crate::counts::Counts;
 use crate::links::Link;
 use crate::replies::Reply;
 use crate::requests::Request;
-use market_amounts::{ProductKey, RequestId};
+use market_amounts::RequestId;
 use std::alloc::AllocError;
-
-/// What an event tells.
-#[derive(Debug, Drop, PartialEq)]
-pub enum Body {
-    /// A change of a product, with the version that it makes.
-    Changed(ProductKey, u32, Change),
-}
-
-impl Body {
-    /// An equal body.
-    pub fn try_copy(&self) -> Result<Body, AllocError>
-        ensures { IfOk result (λ copy. copy ≡ self.now) }
-    {
-        match self {
-            Body::Changed(key, version, change) => Ok(Body::Changed(*key, *version, *change)),
-        }
-    }
-}
 
 /// An event: its link, its number there, from 1, the sender's clock, the events of each service link that it rests on,
 /// and what it tells.

@@ -104,7 +104,13 @@ pub fn service_of(ask: &Ask) -> Node
     ensures { result ≡ service_by_ask ask.now }
 {
     match ask {
-        Ask::Create(..) | Ask::Price(..) => Node::at(PRODUCT),
-        Ask::View(_) => Node::at(CART),
+        Ask::Create(..) | Ask::Price(..) | Ask::Delete(_) => Node::at(PRODUCT),
+        Ask::View(_) | Ask::Line(..) | Ask::Remove(..) | Ask::Checkout(_) => Node::at(CART),
+        Ask::Stock(..) | Ask::Level(_) => Node::at(STOCK),
+        Ask::Order(_) => Node::at(ORDER),
+        Ask::Card(..) => Node::at(PAYMENT),
+        Ask::Deliver => Node::at(SHIPMENT),
+        Ask::Customer(_) => Node::at(CUSTOMER),
+        Ask::Dashboard(_) => Node::at(SELLER),
     }
 }

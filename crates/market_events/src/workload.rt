@@ -1,6 +1,7 @@
 //! The records of a workload.
 
-ghost use Rattle.std.specs.Prelude.{◌≡◌, ◌≢◌, map, length, MatchResult};
+ghost use Rattle.std.specs.Prelude.{◌≡◌, ◌≢◌, true, map, length, IfOk, MatchResult};
+ghost use Rattle.market_events.specs.Answers.{is_run};
 ghost use Rattle.market_events.specs.Workload.{request_of, ask_named, create_of, price_of, view_of, key_of, id_number_of, cents_of, number_up_to};
 
 use crate::requests::{Ask, Request};
@@ -29,6 +30,7 @@ pub enum WorkRule {
 /// range of each argument in turn.
 pub fn read_fields(fields: &[Vec<u8>]) -> Result<Request, WorkRule>
     ensures exact { result ≡ request_of (map (λ field. field.items) fields.now) }
+    ensures run { IfOk result (λ request. is_run request.ask ≡ true) }
 {
     let [caller, number, kind, arguments @ ..] = fields else {
         return Err(WorkRule::Fields);
@@ -43,7 +45,8 @@ pub fn read_fields(fields: &[Vec<u8>]) -> Result<Request, WorkRule>
 }
 
 fn ask_of_kind(kind: &[u8], arguments: &[Vec<u8>]) -> Result<Ask, WorkRule>
-    ensures { result ≡ ask_named kind.now (map (λ field. field.items) arguments.now) }
+    ensures exact { result ≡ ask_named kind.now (map (λ field. field.items) arguments.now) }
+    ensures run { IfOk result (λ ask. is_run ask ≡ true) }
 {
     if kind == b"create".as_slice() {
         create(arguments)
@@ -58,7 +61,8 @@ fn ask_of_kind(kind: &[u8], arguments: &[Vec<u8>]) -> Result<Ask, WorkRule>
 
 #[tactic(auto, using(crate::proofs::FieldCounts::counts))]
 fn create(arguments: &[Vec<u8>]) -> Result<Ask, WorkRule>
-    ensures { result ≡ create_of (map (λ field. field.items) arguments.now) }
+    ensures exact { result ≡ create_of (map (λ field. field.items) arguments.now) }
+    ensures run { IfOk result (λ ask. is_run ask ≡ true) }
 {
     let [seller, product, price, freight] = exactly::<4>(arguments)?;
     let key = key(seller, product)?;
@@ -69,7 +73,8 @@ fn create(arguments: &[Vec<u8>]) -> Result<Ask, WorkRule>
 
 #[tactic(auto, using(crate::proofs::FieldCounts::counts))]
 fn price(arguments: &[Vec<u8>]) -> Result<Ask, WorkRule>
-    ensures { result ≡ price_of (map (λ field. field.items) arguments.now) }
+    ensures exact { result ≡ price_of (map (λ field. field.items) arguments.now) }
+    ensures run { IfOk result (λ ask. is_run ask ≡ true) }
 {
     let [seller, product, price] = exactly::<3>(arguments)?;
     let key = key(seller, product)?;
@@ -79,7 +84,8 @@ fn price(arguments: &[Vec<u8>]) -> Result<Ask, WorkRule>
 
 #[tactic(auto, using(crate::proofs::FieldCounts::counts))]
 fn view(arguments: &[Vec<u8>]) -> Result<Ask, WorkRule>
-    ensures { result ≡ view_of (map (λ field. field.items) arguments.now) }
+    ensures exact { result ≡ view_of (map (λ field. field.items) arguments.now) }
+    ensures run { IfOk result (λ ask. is_run ask ≡ true) }
 {
     let [seller, product] = exactly::<2>(arguments)?;
     let key = key(seller, product)?;

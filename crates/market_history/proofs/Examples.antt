@@ -3,7 +3,7 @@ use Rattle.std.proofs.Common.{◌≡◌, ℕ, ◌==◌, List, [], ◌∷◌, if�
 use Rattle.market_amounts.specs.declared.keys.ProductKey.{ProductKey}
 use Rattle.market_events.specs.declared.changes.Change.TheVariants.{Created, Priced}
 use Rattle.market_events.specs.declared.changes.Change.{Change}
-use Rattle.market_events.specs.declared.events.Body.TheVariants.{Changed}
+use Rattle.market_events.specs.declared.bodies.Body.TheVariants.{Changed}
 use Rattle.market_events.specs.declared.events.Entry.{Entry}
 use Rattle.market_events.specs.declared.events.Event.{Event}
 use Rattle.market_events.specs.declared.events.What.TheVariants.{Taken, Made}

@@ -1,4 +1,4 @@
-ghost use Rattle.std.specs.Prelude.{ℕ, ◌^◌, ◌<◌, ◌≤◌};
+ghost use Rattle.std.specs.Prelude.{◌≡◌, ℕ, ◌+◌, ◌^◌, ◌<◌, ◌≤◌, length};
 ghost use Rattle.market_history.specs.Journals.{IsEntry};
 
 use crate::journals::Journal;
@@ -46,9 +46,22 @@ fn takes_what_it_has_room_for(rt: HostRuntime) -> Result<(), Fail> {
     let product = Node::try_new(1).ok_or("node 1")?;
     let mut journal = Journal::new(rt.alloc(), product);
     journal.reserve(3)?;
-    assert!(rt; journal.push(price_changed(1, 1, price)).is_ok());
-    assert!(rt; journal.push(price_changed(2, 2, price)).is_ok());
-    assert!(rt; journal.push(price_changed(3, 3, price)).is_ok());
+    assert!(rt; is_pushed(&mut journal, 1, price));
+    assert!(rt; is_pushed(&mut journal, 2, price));
+    assert!(rt; is_pushed(&mut journal, 3, price));
     assert_eq!(rt; journal.entries().len(), 3);
     Ok(())
+}
+
+// Whether the product's journal takes the price's change as this event, with as great a clock.
+fn is_pushed(journal: &mut Journal, number: u32, price: Cents) -> bool
+    requires node { journal.old.node ≡ 1 }
+    requires few { length journal.old.entries < 100 }
+    requires number { 1 ≤ number }
+    ensures node { journal.new.node ≡ 1 }
+    ensures few { length journal.new.entries ≤ length journal.old.entries + 1 }
+{
+    journal
+        .push(price_changed(number, u64::from(number), price))
+        .is_ok()
 }

@@ -1,5 +1,5 @@
 use Rattle.std.proofs.Common.{◌≡◌, ◌+◌, ◌++◌, ◌∷◌, [], Ok, refl, ap}
-use Rattle.market_events.specs.declared.events.Body.TheVariants.{Changed}
+use Rattle.market_events.specs.declared.bodies.Body.TheVariants.{Changed}
 use Rattle.market_events.specs.declared.events.Event.{Event}
 use Rattle.market_events.specs.declared.links.Link.TheVariants.{Service}
 use Rattle.market_events.specs.Copies.{version_of}

@@ -1,5 +1,7 @@
 use Rattle.std.proofs.Common.{Err, ap, ◌∙◌, arith}
 use Rattle.std.proofs.lemmas.Result.{err_from_is_err_and}
+use Rattle.std.proofs.lemmas.List.Elements.{All-nil, All-push}
+use Rattle.market_events.specs.Answers.{IsRun}
 use Rattle.csv.specs.Records.{fields_of}
 use Rattle.market.proofs.Workloads.{begins, goes_on, tells_fault, still_less, ends}
 use Rattle.market.proofs.workload.read_workload.Goals as goal
@@ -8,6 +10,7 @@ pub records-init : goal.records-init
 records-init c = (
   rw c.new-requests.ensures.items (begins c.args.text.now c.open_records-reader.result c.open_records-reader.ensures c.requires),
   c.new-requests.ensures.len,
+  rw c.new-requests.ensures.items (All-nil IsRun),
 )
 
 pub returns-in_err-id-clause-said : goal.returns-in_err-id-clause-said
@@ -15,7 +18,7 @@ returns-in_err-id-clause-said c =
     let found = rw c.if-branch.true at c.in_ok-next_record.ensures in
     let exit = err_from_is_err_and c.from_residual-in_err-id.result c.from_residual-in_err-id.ensures.1 in
     tells_fault c.args.text.now c.records.reader c.next_record.new.reader c.records.number c.records.requests.items (fields_of c.next_record.new.row)
-    c.records.invariant.0 found _ c.in_err-id.ensures _ (exit.1 ∙ ap Err exit.2)
+    c.records.invariant.0 found _ c.in_err-id.ensures.said _ (exit.1 ∙ ap Err exit.2)
 
 pub records-smaller : goal.records-smaller
 records-smaller c =
@@ -26,8 +29,9 @@ records-smaller c =
 pub records-preserved : goal.records-preserved
 records-preserved c =
     let found = rw c.if-branch.true at c.in_ok-next_record.ensures in (
-      rw c.in_ok-push.ensures.items (goes_on c.args.text.now c.records.reader c.next_record.new.reader c.records.number c.records.requests.items (fields_of c.next_record.new.row) _ c.records.invariant.0 found c.in_ok-id.ensures),
+      rw c.in_ok-push.ensures.items (goes_on c.args.text.now c.records.reader c.next_record.new.reader c.records.number c.records.requests.items (fields_of c.next_record.new.row) _ c.records.invariant.0 found c.in_ok-id.ensures.said),
       omega (arith, c.in_ok-push.ensures.len, c.records.invariant.1),
+      rw c.in_ok-push.ensures.items (All-push IsRun c.records.requests.items _ c.records.invariant.2 c.in_ok-id.ensures.run),
     )
 
 pub returns-clause-said : goal.returns-clause-said

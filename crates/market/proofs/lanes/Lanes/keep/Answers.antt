@@ -11,4 +11,4 @@ invariant_of-self-2 c =
     (ap (λ kept. kept_at kept c.args.kept.request.id) c.self.view_is ∙ c.requires.new_id)
     (c.in_ok-push.ensures.items ∙ ap (λ kept. kept ++ c.args.kept ∷ []) c.reserve.ensures.items)
     (λ id. c.in_ok-insert.ensures.updates.0 id ∙ ap (λ n. cond (is_at (id_cmp c.args.kept.request.id) id) (Some n) (place_at c.self.inside.places.entries id)) at)
-    c.lane.ensures.value (omega arith) c.self.invariant
+    c.lane.ensures.value (omega arith) c.requires.formed c.self.invariant

@@ -1,9 +1,10 @@
 use Rattle.std.proofs.Common.{◌≡◌, ◌+◌, ◌<◌, ◌^◌, true, List, length, refl, ap, subst, sym, ◌∙◌}
-use Rattle.market_events.specs.declared.events.Body.TheVariants.{Changed}
+use Rattle.market_events.specs.declared.bodies.Body.TheVariants.{Changed}
 use Rattle.market_events.specs.declared.events.Entry.{Entry}
 use Rattle.market_events.specs.declared.events.Event.{Event}
 use Rattle.market_events.specs.declared.links.Link.TheVariants.{Service}
 use Rattle.market_events.specs.Copies.{copy_of}
+use Rattle.market_events.specs.WellFormed.{IsBody}
 use Rattle.market_events.specs.Looks.{look_version}
 use Rattle.market_history.specs.Sent.{sent}
 use Rattle.market_history.specs.Stamps.{clock_before}
@@ -23,13 +24,14 @@ invariant_of-self-2 c =
     let keeps = c.self.invariant.2 in
     let few = subst (λ (s : PairState). length (made_events s) < 2 ^ 31) (sym c.self.view_is) c.requires.few in
     let may = subst (λ (s : PairState). may_make (copy_of (changes_of (made_events s)) c.args.key) c.args.change ≡ true) (sym c.self.view_is) c.requires.may in
-    let next = made_next _ _ _ _ _ _ _ keeps event refl (ap (λ (l : List Entry). length l + 1) c.entries.ensures.value)
+    let next = made_next _ _ _ _ _ _ _ keeps event refl refl (subst IsBody c.changed.ensures.value c.changed.ensures.formed) (ap (λ (l : List Entry). length l + 1) c.entries.ensures.value)
     (ap (λ n. n + 1) (c.last_clock.ensures ∙ ap clock_before c.entries-2.ensures.value)) refl
     (ap (λ n. n + 1) (c.version.ensures ∙ ap look_version c.look.ensures.value)) may in (
       c.in_ok-add_made.ensures.node ∙ c.self.invariant.0,
       c.self.invariant.1,
-      rw (c.in_ok-add_made.ensures.entries, c.in_ok-add_made.ensures.known)
-          (keeps_made _ _ _ _ _ _ _ keeps event c.add_made.new.made next refl few (c.in_ok-add_made.ensures.copies (changes_of (sent (Service 0) c.self.inside.sent.entries)) keeps.made_copied)),
+      rw (c.in_ok-add_made.ensures.entries, c.in_ok-add_made.ensures.known, c.changed.ensures.value)
+          (keeps_made _ _ _ _ _ _ _ keeps event c.add_made.new.made next refl few
+          (rw c.changed.ensures.value at (c.in_ok-add_made.ensures.copies (changes_of (sent (Service 0) c.self.inside.sent.entries)) keeps.made_copied))),
     )
 
 pub returns-clause-kept : goal.returns-clause-kept

@@ -5,7 +5,7 @@ use Rattle.market_history.specs.Journals.{IsEntry}
 use Rattle.market_history.specs.Sent.{sent, got}
 use Rattle.market.specs.declared.pair.PairOutcome.TheVariants.{Offered}
 use Rattle.market.specs.Pairs.{PairState, IsPair, made_events, taken_events, changes_of, taken_entry}
-use Rattle.market.proofs.Pairing.{found_next, found_taken, offered_as, taken_is_next, taken_fits, taken_version, taken_can, keeps_taken}
+use Rattle.market.proofs.Pairing.{found_next, found_taken, offered_as, taken_is_next, taken_fits, taken_version, taken_changed, taken_can, keeps_taken}
 use Rattle.market.proofs.pair.Pair.offer.Goals as goal
 
 pub add_taken-requires-clause-entry : goal.add_taken-requires-clause-entry
@@ -15,6 +15,13 @@ add_taken-requires-clause-entry c =
     c.entries.ensures.value c.in-Some.ensures.some c.in-Some.ensures.from_one c.offer-offer.ensures c.in-Take.is c.in_ok-event-in-Take.ensures in
     subst (λ node. IsEntry node (length c.self.inside.got.entries) (taken_entry c.self.inside.got.entries c.in_ok-event-in-Take.event)) (sym c.self.invariant.1)
     (taken_fits _ _ _ _ _ _ _ keeps c.in_ok-event-in-Take.event there)
+
+pub add_taken-requires-clause-changed : goal.add_taken-requires-clause-changed
+add_taken-requires-clause-changed c =
+    let keeps = c.self.invariant.2 in
+    let there = found_next _ _ _ _ _ _ _ keeps c.entries.result.now c.receiver_of.result c.args.number c.in-Some.event.now c.in_ok-event-in-Take.event c.offer-offer.result
+    c.entries.ensures.value c.in-Some.ensures.some c.in-Some.ensures.from_one c.offer-offer.ensures c.in-Take.is c.in_ok-event-in-Take.ensures in
+    taken_changed _ _ _ _ _ _ _ keeps c.in_ok-event-in-Take.event (taken_is_next _ _ _ _ _ _ _ keeps c.in_ok-event-in-Take.event there)
 
 pub add_taken-requires-clause-next : goal.add_taken-requires-clause-next
 add_taken-requires-clause-next c =

@@ -1,7 +1,7 @@
 use Rattle.std.proofs.Common.{arith, sym, ◌∙◌, ◌<◌, length}
 use Rattle.std.proofs.lemmas.Bool.Decides.{nat_tests}
 use Rattle.market_amounts.proofs.Spelling.{written_some, written_digits, written_read, read_spelled}
-use Rattle.market_amounts.proofs.numbers.read_number.Goals as goal
+use Rattle.market_amounts.proofs.numbers.read_wide_number.Goals as goal
 
 pub returns-then-is_empty-clause-reads : goal.returns-then-is_empty-clause-reads
 returns-then-is_empty-clause-reads c n e within =

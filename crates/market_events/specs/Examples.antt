@@ -1,0 +1,89 @@
+-- What the examples speak of, and the base workload: what each service takes of it, in order, and what it makes.
+-- Customer 7 of caller 7 buys two mugs of the three that are stocked, with a voucher, and pays by card.
+use Rattle.std.specs.Prelude.{ℕ, List, [], ◌∷◌}
+use Rattle.market_amounts.specs.declared.keys.ProductKey.{ProductKey}
+use Rattle.market_amounts.specs.declared.keys.RequestId.{RequestId}
+use Rattle.market_events.specs.declared.bodies.Body.{Body}
+use Rattle.market_events.specs.declared.bodies.Body.TheVariants as body
+use Rattle.market_events.specs.declared.bodies.Ending.TheVariants as ending
+use Rattle.market_events.specs.declared.bodies.Item.{Item}
+use Rattle.market_events.specs.declared.bodies.PricedLine.{PricedLine}
+use Rattle.market_events.specs.declared.changes.Change.TheVariants as change
+use Rattle.market_events.specs.declared.links.Link.TheVariants.{Asked, Told}
+use Rattle.market_events.specs.declared.replies.Reply.{Reply}
+use Rattle.market_events.specs.declared.replies.Reply.TheVariants as reply
+use Rattle.market_events.specs.declared.replies.Rule.{Rule}
+use Rattle.market_events.specs.declared.requests.Ask.{Ask}
+use Rattle.market_events.specs.Steps.{Step, Sending}
+
+abbrev pub a_key : ℕ → ℕ → ProductKey
+a_key seller product = record { seller = seller; product = product }
+
+abbrev pub an_id : ℕ → ℕ → RequestId
+an_id caller number = record { caller = caller; number = number }
+
+-- product, quantity, price, freight and voucher
+abbrev pub a_line : ProductKey → ℕ → ℕ → ℕ → ℕ → PricedLine
+a_line key quantity price freight voucher =
+    record { key = key; quantity = quantity; price = price; freight = freight; voucher = voucher }
+
+-- a product that customer 7 had of a checkout
+abbrev pub an_item : RequestId → ProductKey → Item
+an_item checkout key = record { checkout = checkout; customer = 7; key = key }
+
+-- the request of caller 7 with this number, on the link from lane 7 to this service
+abbrev pub request : ℕ → ℕ → Ask → Sending
+request service number ask = (Asked 7 service, body.Asked (record { id = an_id 7 number; ask = ask }))
+
+-- what this service tells lane 7 of the request with this number
+abbrev pub answer : ℕ → ℕ → Reply → Sending
+answer service number reply = (Told service 7, body.Told (an_id 7 number) reply)
+
+abbrev pub refusal : ℕ → ℕ → Rule → Sending
+refusal service number rule = answer service number (reply.Refused rule)
+
+-- a step that takes this and makes these, and one that makes nothing
+abbrev pub makes : Sending → List Sending → Step
+makes taken made = record { from = taken.0; body = taken.1; made = made }
+
+abbrev pub quiet : Sending → Step
+quiet taken = makes taken []
+
+-- products of sellers 5 and 6
+abbrev pub mug : ProductKey
+mug = a_key 5 10
+
+abbrev pub cup : ProductKey
+cup = a_key 5 11
+
+abbrev pub pot : ProductKey
+pot = a_key 6 10
+
+-- request 5 of caller 7 is the checkout
+abbrev pub basket : RequestId
+basket = an_id 7 5
+
+abbrev pub mug_change : Body
+mug_change = body.Changed mug 1 (change.Created 1000 50)
+
+-- 2 times 1000, and 50, less 100: they cost 1950
+abbrev pub mug_lines : List PricedLine
+mug_lines = a_line mug 2 1000 50 100 ∷ []
+
+abbrev pub mug_reserve : Body
+mug_reserve = body.Reserve basket 7 mug_lines
+
+abbrev pub mug_reserved : Body
+mug_reserved = body.StockConfirmed basket 7 mug_lines
+
+abbrev pub mug_invoice : Body
+mug_invoice = body.Invoice basket 7 mug_lines 1950
+
+abbrev pub mug_paid : Body
+mug_paid = body.Confirmed basket 7 mug_lines 1950
+
+abbrev pub mug_shipped : Body
+mug_shipped = body.Shipped basket
+
+abbrev pub mug_ended : Body
+mug_ended = body.Ended basket (ending.Whole 1950)

@@ -1,0 +1,86 @@
+-- What orders answer, case by case.
+use Rattle.std.specs.Prelude.{◌≡◌, ℕ, List, [], ◌∷◌, ◌++◌}
+use Rattle.market_events.specs.declared.bodies.Body.TheVariants as body
+use Rattle.market_events.specs.declared.bodies.Ending.TheVariants as ending
+use Rattle.market_events.specs.declared.bodies.PayRule.{PayRule}
+use Rattle.market_events.specs.declared.bodies.PayRule.TheVariants as pay
+use Rattle.market_events.specs.declared.bodies.PricedLine.{PricedLine}
+use Rattle.market_events.specs.declared.links.Link.TheVariants.{Service}
+use Rattle.market_events.specs.declared.replies.OrderStatus.{OrderStatus}
+use Rattle.market_events.specs.declared.replies.OrderStatus.TheVariants as status
+use Rattle.market_events.specs.declared.replies.Reply.TheVariants as reply
+use Rattle.market_events.specs.declared.replies.Rule.TheVariants as rule
+use Rattle.market_events.specs.declared.requests.Ask.TheVariants as ask
+use Rattle.market_events.specs.Examples.{an_id, a_line, an_item, request, answer, refusal, makes, quiet, mug, cup, basket, mug_reserved, mug_invoice, mug_paid, mug_shipped, mug_ended}
+use Rattle.market_events.specs.Services.{Role, answers}
+use Rattle.market_events.specs.Steps.{Step, Sending}
+
+abbrev pub order_makes : List Step → Sending → List Sending
+order_makes steps taken = answers Role.Order steps taken.0 taken.1
+
+-- the mug's order in each of its states
+abbrev pub mug_invoiced : List Step
+mug_invoiced = makes (Service 4, mug_reserved) ((Service 6, mug_invoice) ∷ (Service 5, mug_invoice) ∷ []) ∷ []
+
+abbrev pub mug_is_paid : List Step
+mug_is_paid = mug_invoiced ++ quiet (Service 9, mug_paid) ∷ []
+
+abbrev pub mug_is_shipped : List Step
+mug_is_shipped = mug_is_paid ++ makes (Service 13, mug_shipped) ((Service 7, mug_ended) ∷ []) ∷ []
+
+abbrev pub mug_is_delivered : List Step
+mug_is_delivered = mug_is_shipped ++ quiet (Service 13, body.Delivered (an_item basket mug ∷ [])) ∷ []
+
+-- no payment by this rule, and how the checkout ends then
+abbrev pub no_payment : PayRule → Sending
+no_payment rule = (Service 9, body.Failed basket 7 rule)
+
+abbrev pub undone : PayRule → List Sending
+undone rule = (Service 7, body.Ended basket (ending.Undone rule)) ∷ []
+
+abbrev pub mug_is_cancelled : List Step
+mug_is_cancelled = mug_invoiced ++ makes (no_payment pay.OverLimit) (undone pay.OverLimit) ∷ []
+
+-- checkout 6 has two lines: the mug's of 1950 as above, and one cup of 30 with freight 60, whose voucher takes off 30
+abbrev pub two_lines : List PricedLine
+two_lines = a_line mug 2 1000 50 100 ∷ a_line cup 1 30 60 100 ∷ []
+
+abbrev pub two_invoices : List Sending
+two_invoices = (Service 6, body.Invoice (an_id 7 6) 7 two_lines 2010) ∷ (Service 5, body.Invoice (an_id 7 6) 7 two_lines 2010) ∷ []
+
+-- its mug is delivered and its cup is not
+abbrev pub half_delivered : List Step
+half_delivered =
+    mug_is_delivered ++ makes (Service 4, body.StockConfirmed (an_id 7 6) 7 two_lines) two_invoices
+    ∷ quiet (Service 9, body.Confirmed (an_id 7 6) 7 two_lines 2010)
+    ∷ makes (Service 13, body.Shipped (an_id 7 6)) ((Service 7, body.Ended (an_id 7 6) (ending.Whole 2010)) ∷ [])
+    ∷ quiet (Service 13, body.Delivered (an_item (an_id 7 6) mug ∷ [])) ∷ []
+
+-- request 9 asks for the order of checkout 5, or of checkout 6
+abbrev pub ask_5 : Sending
+ask_5 = request 3 9 (ask.Order basket)
+
+abbrev pub ask_6 : Sending
+ask_6 = request 3 9 (ask.Order (an_id 7 6))
+
+abbrev pub is_at : OrderStatus → ℕ → List Sending
+is_at status total = answer 3 9 (reply.OrderState status total) ∷ []
+
+pub record OrderExamples : Type 0 where
+  pub invoice_of_base : order_makes [] (Service 4, mug_reserved) ≡ (Service 6, mug_invoice) ∷ (Service 5, mug_invoice) ∷ []
+  pub voucher_takes_off_at_most_the_price : order_makes mug_invoiced (Service 4, body.StockConfirmed (an_id 7 6) 7 two_lines) ≡ two_invoices
+  pub payment_is_nothing : order_makes mug_invoiced (Service 9, mug_paid) ≡ []
+  pub failed_without_card : order_makes mug_invoiced (no_payment pay.NoCard) ≡ undone pay.NoCard
+  pub failed_over_limit : order_makes mug_invoiced (no_payment pay.OverLimit) ≡ undone pay.OverLimit
+  pub shipped_ends_whole : order_makes mug_is_paid (Service 13, mug_shipped) ≡ (Service 7, mug_ended) ∷ []
+  pub delivery_is_nothing : order_makes mug_is_shipped (Service 13, body.Delivered (an_item basket mug ∷ [])) ≡ []
+  -- an order through its life
+  pub order_of_no_checkout : order_makes [] ask_5 ≡ refusal 3 9 rule.NoOrder ∷ []
+  pub order_of_other_checkout : order_makes mug_is_paid ask_6 ≡ refusal 3 9 rule.NoOrder ∷ []
+  pub order_invoiced : order_makes mug_invoiced ask_5 ≡ is_at status.Invoiced 1950
+  pub order_paid : order_makes mug_is_paid ask_5 ≡ is_at status.Paid 1950
+  pub order_shipped : order_makes mug_is_shipped ask_5 ≡ is_at status.Shipped 1950
+  pub order_delivered : order_makes mug_is_delivered ask_5 ≡ is_at status.Delivered 1950
+  pub order_cancelled : order_makes mug_is_cancelled ask_5 ≡ is_at status.Cancelled 1950
+  pub order_of_a_later_checkout : order_makes half_delivered ask_5 ≡ is_at status.Delivered 1950
+  pub order_half_delivered_is_shipped : order_makes half_delivered ask_6 ≡ is_at status.Shipped 2010

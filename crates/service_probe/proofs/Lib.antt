@@ -1,0 +1,5 @@
+pub mod Tables
+pub mod Counting
+pub mod Tabling
+pub mod Taken
+pub mod CustomerCells
