@@ -1,14 +1,20 @@
 //! The copy of the products.
 
-ghost use Rattle.std.specs.Prelude.{◌≡◌, ◌+◌, List, [], ◌∷◌, ◌++◌, true, false, OnOk, OnErr};
+ghost use Rattle.std.specs.Prelude.{◌≡◌, ◌+◌, List, [], ◌∷◌, ◌++◌, None, true, false, IfOk, OnOk, OnErr};
 ghost use Rattle.market_amounts.specs.declared.keys.ProductKey.{ProductKey};
 ghost use Rattle.market_events.specs.Requests.{same_key};
 ghost use Rattle.market_events.specs.Copies.{ProductChange, copy_of};
 ghost use Rattle.market_events.specs.Looks.{look_version, can_change, look_after};
+ghost use Rattle.market_events.specs.Cells.{look_text, look_cells};
+ghost use Rattle.market_events.specs.CellLists.{put_all, last_value};
+ghost use Rattle.market_events.specs.CellNames.{key_name};
+ghost use Rattle.market_events.specs.Formed.{key_formed};
 ghost use Rattle.cart_replica.specs.Copy.{look_at, IsCopyOf};
+ghost use Rattle.cart_replica.specs.CopyCells.{text_in, copy_cells, AreKeysFormed};
 
-use market_amounts::ProductKey;
-use market_events::{Change, Look};
+use crate::cells::{look_text, put_looks};
+use market_amounts::{List, ProductKey};
+use market_events::{CellList, CellName, Change, Look, key_named};
 use std::alloc::{AllocError, Global};
 use std::collections::BTreeMap;
 use std::marker::Model;
@@ -76,6 +82,40 @@ impl ProductCopy {
         let look = changed(self.look(key), version, change);
         self.looks.insert(key, look)?;
         Ok(())
+    }
+
+    /// Puts the cells of all products that the copy shows, in this table. On want of memory some are not put.
+    pub fn put_cells(
+        &self,
+        alloc: Global,
+        table: &[u8],
+        cells: &mut CellList,
+    ) -> Result<(), AllocError>
+        ensures { OnOk result (cells.new ≡ put_all cells.old (copy_cells table.now self.now)) }
+    {
+        put_looks(alloc, table, &self.looks, cells)
+    }
+
+    /// The value of the cell in this table that has the name, none where there is no such cell.
+    pub fn cell_value(
+        &self,
+        alloc: Global,
+        table: &[u8],
+        name: &CellName,
+    ) -> Result<Option<List<u8>>, AllocError>
+        ensures is { IfOk result (λ value. (key : ProductKey) → key_formed key ≡ true → name.now ≡ key_name table.now key
+            → value ≡ text_in self.now key) }
+        ensures none { IfOk result (λ value. ((key : ProductKey) → key_formed key ≡ true → name.now ≡ key_name table.now key → ⊥)
+            → value ≡ None) }
+
+        // Of whichever changes of well-formed keys it is the copy, it is the value of their cell.
+        ensures copied { IfOk result (λ value. (changes : List ProductChange) → IsCopyOf self.now changes → AreKeysFormed changes
+            → value ≡ last_value name.now (look_cells table.now changes)) }
+    {
+        let Some(key) = key_named(table, name) else {
+            return Ok(None);
+        };
+        look_text(alloc, self.look(key))
     }
 }
 

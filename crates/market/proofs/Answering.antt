@@ -1,36 +1,26 @@
--- Requests answered one after the other, one more at the end.
-use Rattle.std.proofs.Common.{◌≡◌, ℕ, ◌+◌, ◌≤◌, Bool, true, false, not, cond, ◌||◌, nat_lt, List, [], ◌∷◌, ◌++◌, length, Option, Some, None, is_some, fold, ◌==◌, suc, refl, ap, ◌∙◌, sym, length-append, arith}
-use Rattle.std.proofs.lemmas.List.{append-nil}
-use Rattle.std.proofs.lemmas.Bool.{eqb-true, and_parts}
-use Rattle.std.proofs.lemmas.List.Sums.{count_by-le-length}
-use Rattle.market_amounts.specs.declared.keys.ProductKey.{ProductKey}
-use Rattle.market_events.specs.declared.requests.Ask.{Ask}
-use Rattle.market_events.specs.declared.requests.Ask.TheVariants.{Create, Price, Delete, View, Line, Remove, Checkout, Stock, Level, Order, Card, Deliver, Customer, Dashboard}
+-- Requests answered one after the other: one more at the end, and what is found of them.
+use Rattle.std.proofs.Common.{◌≡◌, ℕ, ◌+◌, ◌*◌, ◌%◌, ◌<◌, ◌≤◌, Bool, true, false, cond, ◌||◌, nat_lt, zero, List, [], ◌∷◌, ◌++◌, length, Option, Some, None, is_some, fold, ◌==◌, suc, refl, ap, ◌∙◌, sym, arith, zero-mul, suc-mul}
+use Rattle.std.specs.List.{count_by}
+use Rattle.std.proofs.lemmas.Bool.Decides.{nat_tests}
+use Rattle.std.proofs.lemmas.List.Sums.{sum_by-cons}
 use Rattle.market_events.specs.declared.requests.Request.{Request}
-use Rattle.market_events.specs.declared.changes.Change.{Change}
-use Rattle.market_events.specs.declared.changes.Change.TheVariants as change
-use Rattle.market_events.specs.declared.changes.Look.{Look}
-use Rattle.market_events.specs.declared.changes.Look.TheVariants.{Unknown, Gone, Live}
-use Rattle.market_events.specs.Requests.{lane_of, same_id, same_key}
-use Rattle.market_events.specs.Copies.{ProductChange, copy_of, version_of}
-use Rattle.market_events.specs.Looks.{look_version, can_change, look_after}
-use Rattle.market_events.specs.Answers.{key_asked, change_made}
-use Rattle.market_events.proofs.CopyLaws.{copy_of-push-same, copy_of-push-other, version_of-push-same, version_of-push-other}
+use Rattle.market_events.specs.Requests.{lanes, lane_of, same_id}
 use Rattle.market.specs.declared.lanes.Kept.{Kept}
 use Rattle.market.specs.Lanes.{kept_at, count_in_lane}
-use Rattle.market.specs.Once.{kept_after, has_id_of, count_in_lane_of, kept_of, without_repeats}
-use Rattle.market.specs.Sequential.{change_list, sequential_reply, sequential_changes, replies_after, changes_after}
+use Rattle.market.specs.Once.{has_id_of, count_in_lane_of, kept_of}
+use Rattle.market.specs.Output.{most_kept}
+use Rattle.market.specs.Sequential.{Acts, sequential_reply, sequential_step, replies_after, acts_after}
+use Rattle.market.proofs.Kept.{kept_count}
 
--- the replies and the changes with one request more
-pub replies_after-push : (changes : List ProductChange) (requests : List Request) (r : Request) → replies_after changes (requests ++ r ∷ [])
-    ≡ replies_after changes requests ++ record { request = r; reply = sequential_reply (changes_after changes requests) r.ask } ∷ []
-replies_after-push changes [] r = refl
-replies_after-push changes (q ∷ qs) r = ap (λ rest. record { request = q; reply = sequential_reply changes q.ask } ∷ rest) (replies_after-push (changes ++ sequential_changes changes q.ask) qs r)
+-- the replies and the acts with one request more
+pub replies_after-push : (acts : Acts) (requests : List Request) (r : Request) → replies_after acts (requests ++ r ∷ [])
+    ≡ replies_after acts requests ++ record { request = r; reply = sequential_reply (acts_after acts requests) r } ∷ []
+replies_after-push acts [] r = refl
+replies_after-push acts (q ∷ qs) r = ap (λ rest. record { request = q; reply = sequential_reply acts q } ∷ rest) (replies_after-push (sequential_step acts q) qs r)
 
-pub changes_after-push : (changes : List ProductChange) (requests : List Request) (r : Request) → changes_after changes (requests ++ r ∷ [])
-    ≡ changes_after changes requests ++ sequential_changes (changes_after changes requests) r.ask
-changes_after-push changes [] r = refl
-changes_after-push changes (q ∷ qs) r = changes_after-push (changes ++ sequential_changes changes q.ask) qs r
+pub acts_after-push : (acts : Acts) (requests : List Request) (r : Request) → acts_after acts (requests ++ r ∷ []) ≡ sequential_step (acts_after acts requests) r
+acts_after-push acts [] r = refl
+acts_after-push acts (q ∷ qs) r = acts_after-push (sequential_step acts q) qs r
 
 -- what is kept with an id, and in a lane
 
@@ -38,117 +28,60 @@ some_first : {A : Type 0} (b : Bool) (x : A) (o : Option A) → is_some (cond b 
 some_first true x o = refl
 some_first false x o = refl
 
-pub is_some-kept_at : (changes : List ProductChange) (requests : List Request) (r : Request) → is_some (kept_at (replies_after changes requests) r.id) ≡ has_id_of requests r
-is_some-kept_at changes [] r = refl
-is_some-kept_at changes (q ∷ qs) r =
-    some_first (same_id q.id r.id) (record { request = q; reply = sequential_reply changes q.ask }) (kept_at (replies_after (changes ++ sequential_changes changes q.ask) qs) r.id)
-    ∙ ap (λ rest. same_id q.id r.id || rest) (is_some-kept_at (changes ++ sequential_changes changes q.ask) qs r)
+pub is_some-kept_at : (acts : Acts) (requests : List Request) (r : Request) → is_some (kept_at (replies_after acts requests) r.id) ≡ has_id_of requests r
+is_some-kept_at acts [] r = refl
+is_some-kept_at acts (q ∷ qs) r =
+    some_first (same_id q.id r.id) (record { request = q; reply = sequential_reply acts q }) (kept_at (replies_after (sequential_step acts q) qs) r.id)
+    ∙ ap (λ rest. same_id q.id r.id || rest) (is_some-kept_at (sequential_step acts q) qs r)
 
-count_from : (n lane : ℕ) (changes : List ProductChange) (requests : List Request)
-    → fold (λ (a : ℕ) (k : Kept). a + cond (lane_of k.request.id == lane) 1 0) n (replies_after changes requests)
+count_from : (n lane : ℕ) (acts : Acts) (requests : List Request)
+    → fold (λ (a : ℕ) (k : Kept). a + cond (lane_of k.request.id == lane) 1 0) n (replies_after acts requests)
     ≡ fold (λ (a : ℕ) (q : Request). a + cond (lane_of q.id == lane) 1 0) n requests
-count_from n lane changes [] = refl
-count_from n lane changes (q ∷ qs) = count_from (n + cond (lane_of q.id == lane) 1 0) lane (changes ++ sequential_changes changes q.ask) qs
+count_from n lane acts [] = refl
+count_from n lane acts (q ∷ qs) = count_from (n + cond (lane_of q.id == lane) 1 0) lane (sequential_step acts q) qs
 
-pub count_in_lane-replies : (changes : List ProductChange) (requests : List Request) (r : Request) → count_in_lane (replies_after changes requests) r.id ≡ count_in_lane_of requests r
-count_in_lane-replies changes requests r = count_from 0 (lane_of r.id) changes requests
+pub count_in_lane-replies : (acts : Acts) (requests : List Request) (r : Request) → count_in_lane (replies_after acts requests) r.id ≡ count_in_lane_of requests r
+count_in_lane-replies acts requests r = count_from 0 (lane_of r.id) acts requests
 
--- the version that a copy shows is how many changes the product had
+-- the lanes together keep no more than each of them keeps at most
 
-abbrev pub VersionsAgree : List ProductChange → Type 0
-VersionsAgree changes = (key : ProductKey) → look_version (copy_of changes key) ≡ version_of changes key
+-- the requests of the first lanes
+abbrev below : ℕ → List Request → ℕ
+below n requests = count_by (λ (q : Request). nat_lt (lane_of q.id) n) requests
 
-pub same_key-equal : (a b : ProductKey) → same_key a b ≡ true → a ≡ b
-same_key-equal a b e =
-    let parts = and_parts (a.seller == b.seller) (a.product == b.product) e in
-    let seller = eqb-true a.seller b.seller parts.0 in
-    let product = eqb-true a.product b.product parts.1 in
-    λ i. record { seller = seller i; product = product i }
+-- those of one lane
+abbrev in_lane : ℕ → List Request → ℕ
+in_lane lane requests = count_by (λ (q : Request). lane_of q.id == lane) requests
 
-change_made-can : (ask : Ask) (look : Look) (c : Change) → change_made ask look ≡ Some c → can_change look c ≡ true
-change_made-can (Create key price freight) Unknown c e = let is : change.Created price freight ≡ c = cc in rw (← is) refl
-change_made-can (Create key price freight) (Gone v) c e = let is : change.Created price freight ≡ c = cc in rw (← is) refl
-change_made-can (Create key price freight) (Live v p f) c e = cc
-change_made-can (Price key price) Unknown c e = cc
-change_made-can (Price key price) (Gone v) c e = cc
-change_made-can (Price key price) (Live v p f) c e = let is : change.Priced price ≡ c = cc in rw (← is) refl
-change_made-can (View key) look c e = cc
-change_made-can (Delete key) look c e = cc
-change_made-can (Line customer key quantity voucher) look c e = cc
-change_made-can (Remove customer key) look c e = cc
-change_made-can (Checkout customer) look c e = cc
-change_made-can (Stock key pieces) look c e = cc
-change_made-can (Level key) look c e = cc
-change_made-can (Order checkout) look c e = cc
-change_made-can (Card customer limit) look c e = cc
-change_made-can Deliver look c e = cc
-change_made-can (Customer customer) look c e = cc
-change_made-can (Dashboard seller) look c e = cc
+one_lane_more : (lane n a b c : ℕ) → a ≡ b + c → cond (nat_lt lane (suc n)) 1 0 + a ≡ (cond (nat_lt lane n) 1 0 + b) + (cond (lane == n) 1 0 + c)
+one_lane_more lane n a b c e = grind (arith, nat_tests)
 
-pub look_version-after : (look : Look) (version : ℕ) (c : Change) → look_version (look_after look version c) ≡ version
-look_version-after look version (change.Created p f) = refl
-look_version-after look version (change.Priced p) = refl
-look_version-after look version change.Deleted = refl
+below-next : (n : ℕ) (requests : List Request) → below (suc n) requests ≡ below n requests + in_lane n requests
+below-next n [] = refl
+below-next n (q ∷ qs) =
+    sum_by-cons (λ (q : Request). cond (nat_lt (lane_of q.id) (suc n)) 1 0) q qs
+    ∙ one_lane_more (lane_of q.id) n (below (suc n) qs) (below n qs) (in_lane n qs) (below-next n qs)
+    ∙ sym (ap (λ k. k + in_lane n (q ∷ qs)) (sum_by-cons (λ (q : Request). cond (nat_lt (lane_of q.id) n) 1 0) q qs)
+    ∙ ap (λ k. (cond (nat_lt (lane_of q.id) n) 1 0 + below n qs) + k) (sum_by-cons (λ (q : Request). cond (lane_of q.id == n) 1 0) q qs))
 
-pub agree_at : (changes : List ProductChange) (c : ProductChange) (key : ProductKey) (b : Bool) → same_key key c.key ≡ b → VersionsAgree changes
-    → c.version ≡ version_of changes c.key + 1 → can_change (copy_of changes c.key) c.change ≡ true
-    → look_version (copy_of (changes ++ c ∷ []) key) ≡ version_of (changes ++ c ∷ []) key
-agree_at changes c key true same agree next can =
-    let is = same_key-equal key c.key same in
-    let can_here : can_change (copy_of changes key) c.change ≡ true = rw is can in
-    ap look_version (copy_of-push-same changes c key same can_here)
-    ∙ look_version-after (copy_of changes key) c.version c.change
-    ∙ next ∙ ap (λ k. version_of changes k + 1) (sym is) ∙ sym (version_of-push-same changes c key same)
-agree_at changes c key false same agree next can =
-    ap look_version (copy_of-push-other changes c key same) ∙ agree key ∙ sym (version_of-push-other changes c key same)
+below-none : (requests : List Request) → below 0 requests ≤ 0
+below-none [] = omega arith
+below-none (q ∷ qs) = grind (arith, nat_tests, sum_by-cons (λ (q : Request). cond (nat_lt (lane_of q.id) 0) 1 0) q qs, below-none qs)
 
-agree_made : (changes : List ProductChange) (ask : Ask) (made : Option Change) → change_made ask (copy_of changes (key_asked ask)) ≡ made → VersionsAgree changes
-    → VersionsAgree (changes ++ change_list ask (version_of changes (key_asked ask) + 1) made)
-agree_made changes ask None e agree = rw append-nil agree
-agree_made changes ask (Some c) e agree = λ key. agree_at changes (record { key = key_asked ask; version = version_of changes (key_asked ask) + 1; change = c }) key
-    (same_key key (key_asked ask)) refl agree refl (change_made-can ask (copy_of changes (key_asked ask)) c e)
+below-le : (most n : ℕ) (requests : List Request) → ((lane : ℕ) → in_lane lane requests ≤ most) → below n requests ≤ n * most
+below-le most zero requests each = omega (arith, below-none requests, zero-mul most)
+below-le most (suc n) requests each = omega (arith, suc-mul n most, below-next n requests, below-le most n requests each, each n)
 
-pub versions_agree : (changes : List ProductChange) (requests : List Request) → VersionsAgree changes → VersionsAgree (changes_after changes requests)
-versions_agree changes [] agree = agree
-versions_agree changes (r ∷ rs) agree = versions_agree (changes ++ sequential_changes changes r.ask) rs
-    (agree_made changes r.ask (change_made r.ask (copy_of changes (key_asked r.ask))) refl agree)
+below-all : (requests : List Request) → below lanes requests ≡ length requests
+below-all [] = refl
+below-all (q ∷ qs) = all (lane_of q.id) (sum_by-cons (λ (q : Request). cond (nat_lt (lane_of q.id) lanes) 1 0) q qs) (below-all qs) (lane_within q.id.caller)
+  where
+    lane_within : (n : ℕ) → n % lanes < lanes
+    lane_within n = omega arith
 
--- changes and versions are no more than the requests
+    all : (lane : ℕ) → below lanes (q ∷ qs) ≡ cond (nat_lt lane lanes) 1 0 + below lanes qs → below lanes qs ≡ length qs → lane < lanes → below lanes (q ∷ qs) ≡ suc (length qs)
+    all lane e rest within = grind (arith, nat_tests)
 
-made_few : (ask : Ask) (version : ℕ) (made : Option Change) → length (change_list ask version made) ≤ 1
-made_few ask version None = omega arith
-made_few ask version (Some c) = omega arith
-
-length-changes_after : (changes : List ProductChange) (requests : List Request) → length (changes_after changes requests) ≤ length changes + length requests
-length-changes_after changes [] = omega arith
-length-changes_after changes (r ∷ rs) = omega (
-  arith,
-  length-changes_after (changes ++ sequential_changes changes r.ask) rs,
-  length-append changes (sequential_changes changes r.ask),
-  made_few r.ask (version_of changes (key_asked r.ask) + 1) (change_made r.ask (copy_of changes (key_asked r.ask))),
-)
-
-fewer : {A : Type 0} (b : Bool) (x : A) (xs : List A) (n : ℕ) → length xs ≤ n → length (cond b (x ∷ xs) xs) ≤ suc n
-fewer true x xs n h = omega arith
-fewer false x xs n h = omega arith
-
-length-kept_after : {A : Type 0} (p : List A → A → Bool) (front xs : List A) → length (kept_after p front xs) ≤ length xs
-length-kept_after p front [] = omega arith
-length-kept_after p front (x ∷ xs) = fewer (p front x) x (kept_after p (front ++ x ∷ []) xs) (length xs) (length-kept_after p (front ++ x ∷ []) xs)
-
-length-kept_of : (most : ℕ) (given : List Request) → length (kept_of most given) ≤ length given
-length-kept_of most given = omega (
-  arith,
-  length-kept_after (λ before r. nat_lt (count_in_lane_of before r) most) [] (without_repeats given),
-  length-kept_after (λ before r. not (has_id_of before r)) [] given,
-)
-
-pub changes_few : (most : ℕ) (given : List Request) → length (changes_after [] (kept_of most given)) ≤ length given
-changes_few most given = omega (arith, length-changes_after [] (kept_of most given), length-kept_of most given)
-
-pub version_few : (most : ℕ) (given : List Request) (key : ProductKey) → version_of (changes_after [] (kept_of most given)) key ≤ length given
-version_few most given key = omega (
-  arith,
-  count_by-le-length (λ (c : ProductChange). same_key key c.key) (changes_after [] (kept_of most given)),
-  changes_few most given,
-)
+pub kept_few : (given : List Request) → length (kept_of most_kept given) ≤ 262_144
+kept_few given =
+    omega (arith, below-all (kept_of most_kept given), below-le most_kept lanes (kept_of most_kept given) (kept_count most_kept given))

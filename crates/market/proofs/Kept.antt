@@ -1,5 +1,5 @@
 -- What the lanes keep of the requests that were given: one request more, and one lane alone.
-use Rattle.std.proofs.Common.{◌≡◌, ℕ, ◌≤◌, min, Bool, true, false, not, cond, ◌||◌, ◌⊎◌, inl, inr, ⊎_elim, List, [], ◌∷◌, ◌++◌, length, take, if◌then◌else◌, nat_lt, ◌==◌, count_by, filter, refl, sym, ap, ap₂, ◌∙◌, subst, append-nil, append_assoc, length-take, arith}
+use Rattle.std.proofs.Common.{◌≡◌, ℕ, ◌≤◌, min, Bool, true, false, not, cond, ◌&&◌, ◌||◌, ◌⊎◌, inl, inr, ⊎_elim, List, [], ◌∷◌, ◌++◌, length, take, if◌then◌else◌, nat_lt, ◌==◌, count_by, filter, refl, sym, ap, ap₂, ◌∙◌, subst, append-nil, append_assoc, length-take, arith}
 use Rattle.std.specs.List.{list_any}
 use Rattle.std.proofs.lemmas.Bool.{false≢true, eqb-true, and_parts, or_cases, cond_both}
 use Rattle.std.proofs.lemmas.Bool.Decides.{nat_tests}
@@ -75,13 +75,19 @@ same_id-true q r same =
     let numbers = eqb-true q.id.number r.id.number parts.1 in
     let id : ℕ → ℕ → RequestId = λ caller number. record { caller = caller; number = number } in ap₂ id callers numbers
 
+pub same_id-itself : (q : Request) → same_id q.id q.id ≡ true
+same_id-itself q = itself q.id.caller q.id.number
+  where
+    itself : (a b : ℕ) → ((a == a) && (b == b)) ≡ true
+    itself a b = grind (arith, nat_tests)
+
 lane_of-same : (q r : Request) → same_id q.id r.id ≡ true → lane_of q.id ≡ lane_of r.id
 lane_of-same q r same = ap lane_of (same_id-true q r same)
 
 has_id_of-same : (xs : List Request) (q r : Request) → same_id q.id r.id ≡ true → has_id_of xs q ≡ has_id_of xs r
 has_id_of-same xs q r same = ap (λ id. list_any (λ (x : Request). same_id x.id id) xs) (same_id-true q r same)
 
-count_in_lane_of-same : (xs : List Request) (q r : Request) → same_id q.id r.id ≡ true → count_in_lane_of xs q ≡ count_in_lane_of xs r
+pub count_in_lane_of-same : (xs : List Request) (q r : Request) → same_id q.id r.id ≡ true → count_in_lane_of xs q ≡ count_in_lane_of xs r
 count_in_lane_of-same xs q r same = ap (λ id. count_by (λ (x : Request). lane_of x.id == lane_of id) xs) (same_id-true q r same)
 
 -- leaving repeats out loses no id

@@ -5,8 +5,13 @@ pub mod Reading
 pub mod Fields
 pub mod Workloads
 pub mod Answering
+pub mod Tables
+pub mod Shapes
+pub mod Serving
+pub mod Serves
+pub mod Giving
 pub mod Passing
 pub mod Hands
+pub mod Lines
 pub mod Keeping
 pub mod Ending
-pub mod Pairing

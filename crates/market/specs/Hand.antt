@@ -1,19 +1,18 @@
 -- What a hand stands for: the requests that it was given.
-use Rattle.std.specs.Prelude.{◌≡◌, [], List}
+use Rattle.std.specs.Prelude.{◌≡◌, List}
 use Rattle.market_events.specs.declared.requests.Request.{Request}
 use Rattle.market.specs.declared.lanes.Kept.{Kept}
 use Rattle.market.specs.declared.hand.Hand.{Hand}
 use Rattle.market.specs.Once.{kept_of}
-use Rattle.market.specs.Pairs.{IsInStep, made_events, changes_of}
 use Rattle.market.specs.Output.{most_kept}
-use Rattle.market.specs.Sequential.{sequential_replies, changes_after}
+use Rattle.market.specs.Sequential.{sequential_replies}
+use Rattle.market.specs.Services.{Serves}
 
 -- what is kept of the given requests, with the replies of the sequential market
 abbrev pub kept_replies : List Request → List Kept
 kept_replies given = sequential_replies (kept_of most_kept given)
 
--- the lanes keep what they keep of the given requests, and the cart took the events of the changes that these made
+-- the lanes keep what they keep of the given requests, and the services answered these
 pub record Stands (hand : Hand) (given : List Request) : Type 0 where
   pub kept : hand.lanes ≡ kept_replies given
-  pub step : IsInStep hand.pair
-  pub made : changes_of (made_events hand.pair) ≡ changes_after [] (kept_of most_kept given)
+  pub serves : Serves hand.services (kept_of most_kept given)

@@ -9,4 +9,4 @@ pub mod Hand
 pub mod Words
 pub mod Statuses
 pub mod Runs
-pub mod Pairs
+pub mod Services

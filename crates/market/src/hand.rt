@@ -1,61 +1,73 @@
-//! Requests taken in one after the other: a lane keeps each once, and the market answers it at once.
+//! Requests taken in one after the other: a lane keeps each once, and the services answer it at once.
 
-ghost use Rattle.std.specs.Prelude.{◌≡◌, ◌+◌, ◌<◌, ◌^◌, List, [], ◌∷◌, ◌++◌, true, not, is_some, ◌&&◌, nat_lt, IfOk, IfSome, OnOk, length};
+ghost use Rattle.std.specs.Prelude.{◌≡◌, List, [], ◌∷◌, ◌++◌, not, is_some, ◌&&◌, nat_lt, length, IfOk, OnOk};
 ghost use Rattle.market_events.specs.declared.requests.Request.{Request};
-ghost use Rattle.market_events.specs.Answers.{is_run, IsRun, key_asked, reply_of, change_made};
-ghost use Rattle.market_events.specs.Copies.{version_of};
-ghost use Rattle.market_events.specs.Looks.{look_version};
-ghost use Rattle.market_events.specs.WellFormed.{IsReply};
-ghost use Rattle.cart_replica.specs.Copy.{look_at};
+ghost use Rattle.market_events.specs.Answers.{IsRun};
+ghost use Rattle.market_events.specs.WellFormed.{IsRequest, IsReply};
+ghost use Rattle.market.specs.Hand.{Stands, kept_replies};
 ghost use Rattle.market.specs.Lanes.{kept_at, count_in_lane};
-ghost use Rattle.market.specs.Pairs.{IsInStep, made_events, changes_of, may_make};
-ghost use Rattle.market.specs.Sequential.{sequential_changes};
+ghost use Rattle.market.specs.Once.{answer_for};
 
 use crate::lanes::{Kept, Lanes, MOST_KEPT};
-use crate::pair::{Pair, version};
-use market_amounts::{Cents, ProductKey, RequestId};
-use market_events::{Ask, Change, Look, Reply, Request, Rule};
+use crate::services::Services;
+use market_amounts::RequestId;
+use market_events::{Reply, Request, Rule};
 use std::alloc::{AllocError, Global};
 
-/// The lanes, and the product and the cart, which takes the event of each accepted change at once.
+/// The lanes, and the services behind them. It stands for the requests that it was given, in order.
 #[derive(Drop)]
 pub struct Hand {
     lanes: Lanes,
-    pair: Pair,
+    services: Services,
 }
 
 impl Hand {
-    ghost use Rattle.market.specs.Hand.{Stands, kept_replies};
-
     /// Nothing was given.
     pub fn new(alloc: Global) -> Hand
         ensures { Stands result [] }
     {
         Hand {
             lanes: Lanes::new(alloc),
-            pair: Pair::new(alloc),
+            services: Services::new(alloc),
         }
     }
 
-    /// What is kept.
-    pub fn lanes(&self) -> &Lanes
-        ensures { (given : List Request) → Stands self.now given → result.now ≡ kept_replies given }
+    /// How many requests are kept.
+    pub fn len(&self) -> usize
+        ensures { (given : List Request) → Stands self.now given → result ≡ length (kept_replies given) }
     {
-        &self.lanes
+        self.lanes.len()
     }
 
-    /// Takes a request in, which requires a creation, a price or a view: it is kept and answered, unless its id is kept
-    /// or its lane has no room. After want of memory this is given up.
-    pub fn take(&mut self, request: &Request) -> Result<(), AllocError>
+    /// Answers a request, which requires one that is well formed and of a kind that is built. One with a new id whose lane
+    /// has room is kept, and its service answers it. The answer to any other is `request_differs` where the id is kept
+    /// with other content, the kept reply where it is kept with this one, and `lane_full` where it is not kept. After want
+    /// of memory this is given up.
+    pub fn answer(&mut self, request: &Request) -> Result<Reply, AllocError>
         requires run { IsRun request.now }
-        requires stands { (given : List Request) × Stands self.old given × (length given < 2 ^ 31) }
+        requires formed { IsRequest request.now }
+        requires stands { ∥ ((given : List Request) × Stands self.old given) ∥₁ }
+        ensures answered { IfOk result (λ reply. (given : List Request) → Stands self.old given
+            → reply ≡ answer_for (kept_replies (given ++ request.now ∷ [])) request.now) }
+        ensures formed { IfOk result IsReply }
+        ensures on { OnOk result ((given : List Request) → Stands self.old given → Stands self.new (given ++ request.now ∷ [])) }
+    {
+        self.take(request)?;
+        reply_kept(&self.lanes, request)
+    }
+
+    // Takes a request in: it is kept and answered, unless its id is kept or its lane has no room.
+    fn take(&mut self, request: &Request) -> Result<(), AllocError>
+        requires run { IsRun request.now }
+        requires formed { IsRequest request.now }
+        requires stands { ∥ ((given : List Request) × Stands self.old given) ∥₁ }
         ensures { OnOk result ((given : List Request) → Stands self.old given → Stands self.new (given ++ request.now ∷ [])) }
     {
         let Request { id, ask } = *request;
         if !can_keep(&self.lanes, id) {
             return Ok(());
         }
-        let reply = answer(&mut self.pair, &ask)?;
+        let reply = self.services.ask(request)?;
         self.lanes.keep(Kept {
             request: Request { id, ask },
             reply,
@@ -71,87 +83,14 @@ fn can_keep(lanes: &Lanes, id: RequestId) -> bool
     lanes.find(id).is_none() && lanes.has_room(id)
 }
 
-// The reply to a new request, whose change is passed on.
-fn answer(pair: &mut Pair, ask: &Ask) -> Result<Reply, AllocError>
-    requires run { is_run ask.now ≡ true }
-    requires step { IsInStep pair.old }
-    requires few { length (made_events pair.old) < 2 ^ 31 }
-    requires version { look_version (look_at pair.old.looks (key_asked ask.now)) + 1 < 2 ^ 32 }
-    ensures reply { let look = look_at pair.old.looks (key_asked ask.now) in IfOk result (λ reply. reply ≡ reply_of ask.now look (look_version look)) }
+// The answer to a request by what is kept.
+fn reply_kept(lanes: &Lanes, request: &Request) -> Result<Reply, AllocError>
+    ensures value { IfOk result (λ reply. reply ≡ answer_for lanes.now request.now) }
     ensures formed { IfOk result IsReply }
-    ensures step { OnOk result (IsInStep pair.new) }
-    ensures changes { let changes = changes_of (made_events pair.old) in OnOk result (changes_of (made_events pair.new) ≡ changes ++ sequential_changes changes ask.now) }
 {
-    let key = product_of(ask);
-    let look = pair.copy().look(key);
-    let reply = reply_to(ask, &look);
-    if let Some(change) = change_by(ask, &look) {
-        pass_on(pair, key, change)?;
+    match lanes.find(request.id) {
+        None => Ok(Reply::Refused(Rule::LaneFull)),
+        Some(kept) if kept.request.ask == request.ask => kept.reply.try_copy(),
+        Some(_) => Ok(Reply::Refused(Rule::RequestDiffers)),
     }
-    Ok(reply)
-}
-
-// Makes the event of a change, which the cart takes.
-fn pass_on(pair: &mut Pair, key: ProductKey, change: Change) -> Result<(), AllocError>
-    requires step { IsInStep pair.old }
-    requires few { length (made_events pair.old) < 2 ^ 31 }
-    requires may { may_make (look_at pair.old.looks key) change ≡ true }
-    ensures step { OnOk result (IsInStep pair.new) }
-    ensures changes { let changes = changes_of (made_events pair.old) in OnOk result (changes_of (made_events pair.new)
-        ≡ changes ++ record { key = key; version = version_of changes key + 1; change = change } ∷ []) }
-{
-    let number = pair.make(key, change)?;
-    pair.offer(number)?;
-    Ok(())
-}
-
-// The product that a request is about.
-fn product_of(ask: &Ask) -> ProductKey
-    requires { is_run ask.now ≡ true }
-    ensures { result ≡ key_asked ask.now }
-{
-    match ask {
-        Ask::Create(key, _, _) | Ask::Price(key, _) | Ask::View(key) => *key,
-        _ => unreachable!(),
-    }
-}
-
-// The change that a request makes of a product that shows this.
-fn change_by(ask: &Ask, look: &Look) -> Option<Change>
-    ensures made { result ≡ change_made ask.now look.now }
-    ensures may { IfSome result (λ change. may_make look.now change ≡ true) }
-{
-    match (ask, look) {
-        (Ask::Create(_, price, freight), Look::Unknown | Look::Gone(_)) => {
-            Some(Change::Created(*price, *freight))
-        }
-        (Ask::Price(_, price), Look::Live(..)) => Some(Change::Priced(*price)),
-        _ => None,
-    }
-}
-
-// The reply to a request about a product that shows this.
-fn reply_to(ask: &Ask, look: &Look) -> Reply
-    requires run { is_run ask.now ≡ true }
-    requires version { look_version look.now + 1 < 2 ^ 32 }
-    ensures value { result ≡ reply_of ask.now look.now (look_version look.now) }
-    ensures formed { IsReply result }
-{
-    match (ask, look) {
-        (Ask::Create(..), Look::Live(..)) => Reply::Refused(Rule::Exists),
-        (Ask::Create(..), _) => Reply::Created(version(look) + 1),
-        (_, Look::Unknown) => Reply::Refused(Rule::Unknown),
-        (_, Look::Gone(_)) => Reply::Refused(Rule::Gone),
-        (Ask::Price(..), Look::Live(version, _, _)) => Reply::Priced(*version + 1),
-        (Ask::View(_), Look::Live(version, price, freight)) => view(*version, *price, *freight),
-        _ => unreachable!(),
-    }
-}
-
-// What is seen of a product that is there.
-fn view(version: u32, price: Cents, freight: Cents) -> Reply
-    ensures value { result ≡ Reply.View version price freight }
-    ensures formed { IsReply result }
-{
-    Reply::View(version, price, freight)
 }

@@ -3,16 +3,14 @@
 #![tactic(auto)]
 
 mod answers;
-mod hand;
+pub mod hand;
 mod input;
 mod lanes;
 pub mod laws;
 mod output;
-pub mod pair;
-#[cfg(test)]
-mod pair_tests;
 mod records;
 mod runs;
+mod services;
 mod statuses;
 #[cfg(test)]
 mod tests;

@@ -100,7 +100,16 @@ fn bad_records(rt: HostRuntime) -> Result<(), Fail> {
         (b"3,1,paint,5\n".as_slice(), 1, InputRule::Kind),
         (b"7,01,view,5,10\n".as_slice(), 1, InputRule::Number),
         (b"7,1\n".as_slice(), 1, InputRule::Fields),
-        (b"7,1,line,7,5,10,1,0\n".as_slice(), 1, InputRule::Kind),
+        (b"3,1,line,3,5,10,1001,0\n".as_slice(), 1, InputRule::Range),
+        (b"3,1,line,3,5,10,1001\n".as_slice(), 1, InputRule::Fields),
+        (b"3,1,line,3,5,10,0,0\n".as_slice(), 1, InputRule::Range),
+        (b"7,1,stock,5,10,0\n".as_slice(), 1, InputRule::Range),
+        (
+            b"7,1,stock,5,10,1000000001\n".as_slice(),
+            1,
+            InputRule::Range,
+        ),
+        (b"7,1,checkout,7\n".as_slice(), 1, InputRule::Kind),
         (
             b"7,1,view,5,10\n3,1,paint,5\n".as_slice(),
             2,
@@ -184,6 +193,60 @@ fn repeats(rt: HostRuntime) -> Result<(), Fail> {
     let expected =
         b"7.1 created 1\n7.1 created 1\n7.1 refused request_differs\n7.2 view 1 1000 50\nrequests 2\nwhole 0\nundone 0\noutstanding 0\n";
     assert_eq!(rt; ran.written.as_slice(), expected.as_slice());
+    Ok(())
+}
+
+const LIMITS: &[u8] =
+    b"7,1,create,5,10,1,0\n7,2,stock,5,10,1000000000\n7,3,stock,5,10,1\n7,4,create,5,10,1,0\n7,5,price,5,11,1\n";
+
+const LIMITS_OUTPUT: &[u8] =
+    b"7.1 created 1\n7.2 stocked 1000000000\n7.3 refused stock_over\n7.4 refused exists\n7.5 refused unknown\nrequests 5\nwhole 0\nundone 0\noutstanding 0\n";
+
+#[test]
+fn limits_of_stock(rt: HostRuntime) -> Result<(), Fail> {
+    let ran = run(&rt, LIMITS)?;
+    assert_eq!(rt; ran.status, Status::Done);
+    assert_eq!(rt; ran.written.as_slice(), LIMITS_OUTPUT);
+    Ok(())
+}
+
+// A cart of 32 lines, a line of a 33rd product, and one of a product that it has.
+fn loaded_cart(alloc: Global) -> Result<Vec<u8>, AllocError> {
+    let mut bytes = Vec::new(alloc);
+    for product in 0..33u32 {
+        let line = format!(in alloc; "7,{product},create,5,{product},1,0\n")?;
+        bytes.extend_from_slice(line.as_bytes())?;
+    }
+    for product in 0..33u32 {
+        let line = format!(in alloc; "8,{product},line,7,5,{product},1,0\n")?;
+        bytes.extend_from_slice(line.as_bytes())?;
+    }
+    bytes.extend_from_slice(b"8,33,line,7,5,31,9,0\n8,34,remove,7,5,32\n8,35,remove,7,5,0\n")?;
+    Ok(bytes)
+}
+
+#[test]
+fn full_cart(rt: HostRuntime) -> Result<(), Fail> {
+    let ran = run(&rt, &loaded_cart(rt.alloc())?)?;
+    assert_eq!(rt; ran.status, Status::Done);
+    let tail =
+        b"8.31 line 1\n8.32 refused cart_full\n8.33 line 9\n8.34 refused no_line\n8.35 removed\nrequests 69\nwhole 0\nundone 0\noutstanding 0\n";
+    assert!(rt; ran.written.as_slice().ends_with(tail));
+    Ok(())
+}
+
+// A product that is deleted and created again, seen in the cart and in stock.
+const AGAIN: &[u8] =
+    b"7,1,create,5,10,1000,50\n7,2,delete,5,10\n7,3,view,5,10\n7,4,stock,5,10,2\n7,5,level,5,10\n7,6,create,5,10,1200,0\n7,7,view,5,10\n7,8,stock,5,10,2\n7,9,level,5,10\n7,10,level,5,11\n";
+
+const AGAIN_OUTPUT: &[u8] =
+    b"7.1 created 1\n7.2 deleted 2\n7.3 refused gone\n7.4 refused gone\n7.5 level 0 0\n7.6 created 3\n7.7 view 3 1200 0\n7.8 stocked 2\n7.9 level 2 0\n7.10 refused unknown\nrequests 10\nwhole 0\nundone 0\noutstanding 0\n";
+
+#[test]
+fn created_again(rt: HostRuntime) -> Result<(), Fail> {
+    let ran = run(&rt, AGAIN)?;
+    assert_eq!(rt; ran.status, Status::Done);
+    assert_eq!(rt; ran.written.as_slice(), AGAIN_OUTPUT);
     Ok(())
 }
 

@@ -6,6 +6,7 @@ ghost use Rattle.market_events.specs.Workload.{request_of};
 ghost use Rattle.market.specs.declared.workload.WorkFault.TheVariants.{OutOfMemory};
 ghost use Rattle.std.specs.List.{All};
 ghost use Rattle.market_events.specs.Answers.{IsRun};
+ghost use Rattle.market_events.specs.WellFormed.{IsRequest};
 ghost use Rattle.market.specs.Workload.{workload_of, at_record, TellsFault};
 
 use crate::input::MOST_BYTES;
@@ -56,6 +57,7 @@ pub fn read_workload(alloc: Global, text: &[u8]) -> Result<Vec<Request>, WorkFau
     ensures said { MatchResult result (λ requests. workload_of text.now ≡ Ok requests.items) (TellsFault (workload_of text.now)) }
     ensures few { IfOk result (λ requests. vec_len requests ≤ MOST_BYTES) }
     ensures run { IfOk result (λ requests. All IsRun requests.items) }
+    ensures formed { IfOk result (λ requests. All IsRequest requests.items) }
 {
     let mut reader = open_records(alloc, text);
     let mut row = ByteRecord::new(alloc);
@@ -74,6 +76,7 @@ fn read_row(alloc: Global, row: &ByteRecord, number: u32) -> Result<Request, Wor
     ensures said { MatchResult result (λ request. at_record number (request_of (fields_of row.now)) ≡ Ok request)
         (TellsFault (at_record number (request_of (fields_of row.now)))) }
     ensures run { IfOk result IsRun }
+    ensures formed { IfOk result IsRequest }
 {
     let fields = fields(alloc, row)?;
     match read_fields(&fields) {

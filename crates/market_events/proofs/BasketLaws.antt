@@ -22,16 +22,16 @@ use Rattle.market_events.proofs.SameLaws.{same_key-true, same_key-swap}
 use Rattle.market_events.proofs.ListLaws.{or_right}
 
 -- the pairs, put in turn into these entries
-abbrev put_all : List (ProductKey × Held) → List (ProductKey × Held) → List (ProductKey × Held)
+abbrev pub put_all : List (ProductKey × Held) → List (ProductKey × Held) → List (ProductKey × Held)
 put_all es pairs = fold (λ es p. entries.put key_cmp p.0 p.1 es) es pairs
 
 -- pairs put into sorted entries leave them sorted
-put_all-sorted : (es pairs : List (ProductKey × Held)) → T (entries.is_sorted key_cmp es) → T (entries.is_sorted key_cmp (put_all es pairs))
+pub put_all-sorted : (es pairs : List (ProductKey × Held)) → T (entries.is_sorted key_cmp es) → T (entries.is_sorted key_cmp (put_all es pairs))
 put_all-sorted es [] sorted = sorted
 put_all-sorted es (p ∷ ps) sorted = put_all-sorted (entries.put key_cmp p.0 p.1 es) ps (entries.is_sorted-put key_cmp key_cmp_total p.0 p.1 es sorted)
 
 -- of pairs whose values are given by their keys, the one of a key is found where the key is among them
-put_all-find : (v : ProductKey → Option Held) (q : ProductKey) (keys : List ProductKey) (es : List (ProductKey × Held))
+pub put_all-find : (v : ProductKey → Option Held) (q : ProductKey) (keys : List ProductKey) (es : List (ProductKey × Held))
     → entries.find key_cmp q (put_all es (filter_map (λ key. with_key key (v key)) keys)) ≡ option_or (if list_any (same_key q) keys then v q else None) (entries.find key_cmp q es)
 put_all-find v q [] es = refl
 put_all-find v q (k ∷ keys) es = by_value (v k) refl (λ more. put_all-find v q keys more)

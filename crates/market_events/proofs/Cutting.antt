@@ -4,7 +4,7 @@ use Rattle.std.specs.List.{slice_split, onto_first, position_or_len}
 use Rattle.std.proofs.lemmas.Bool.Decides.{nat_tests}
 use Rattle.std.proofs.lemmas.List.{take_rest}
 use Rattle.std.proofs.lemmas.List.Splits.{slice_split_first}
-use Rattle.market_events.specs.declared.faults.BodyError.TheVariants as bad
+use Rattle.market_events.specs.declared.texts.faults.BodyError.TheVariants as bad
 use Rattle.market_events.specs.Reading.{pieces, ended}
 
 -- where no byte passes, the text is the one piece

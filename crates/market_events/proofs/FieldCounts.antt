@@ -3,7 +3,7 @@ use Rattle.std.proofs.Common.{◌≡◌, ◌≢◌, ◌<◌, ℕ, List, [], ◌�
 use Rattle.market_events.specs.declared.workload.WorkRule.{WorkRule}
 use Rattle.market_events.specs.declared.workload.WorkRule.TheVariants as broken
 use Rattle.std.proofs.lemmas.List.{length-map}
-use Rattle.market_events.specs.Workload.{of_two, of_three, of_four, request_of}
+use Rattle.market_events.specs.Workload.{of_two, of_three, of_four, of_five, request_of}
 
 pub of_two-other : {B : Type 0} (f : List ℕ → List ℕ → Result B WorkRule) (xs : List (List ℕ)) → length xs ≢ 2 → of_two f xs ≡ Err broken.Fields
 of_two-other f [] h = refl
@@ -26,6 +26,15 @@ of_four-other f (a ∷ b ∷ c ∷ []) h = refl
 of_four-other f (a ∷ b ∷ c ∷ d ∷ []) h = absurd (h refl)
 of_four-other f (a ∷ b ∷ c ∷ d ∷ e ∷ xs) h = refl
 
+pub of_five-other : {B : Type 0} (f : List ℕ → List ℕ → List ℕ → List ℕ → List ℕ → Result B WorkRule) (xs : List (List ℕ)) → length xs ≢ 5 → of_five f xs ≡ Err broken.Fields
+of_five-other f [] h = refl
+of_five-other f (a ∷ []) h = refl
+of_five-other f (a ∷ b ∷ []) h = refl
+of_five-other f (a ∷ b ∷ c ∷ []) h = refl
+of_five-other f (a ∷ b ∷ c ∷ d ∷ []) h = refl
+of_five-other f (a ∷ b ∷ c ∷ d ∷ e ∷ []) h = absurd (h refl)
+of_five-other f (a ∷ b ∷ c ∷ d ∷ e ∷ g ∷ xs) h = refl
+
 -- fewer than three fields
 pub request_of-few : (xs : List (List ℕ)) → length xs < 3 → request_of xs ≡ Err broken.Fields
 request_of-few [] h = refl
@@ -33,4 +42,4 @@ request_of-few (a ∷ []) h = refl
 request_of-few (a ∷ b ∷ []) h = refl
 request_of-few (a ∷ b ∷ c ∷ xs) h = absurd (omega arith)
 
-pub ruleset counts = (of_two-other, of_three-other, of_four-other, length-map)
+pub ruleset counts = (of_two-other, of_three-other, of_four-other, of_five-other, length-map)

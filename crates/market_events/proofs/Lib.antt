@@ -81,3 +81,6 @@ pub mod AnswerStock
 pub mod FormedLaws
 pub mod StandingLaws
 pub mod CellLaws
+pub mod CellWords
+pub mod KeyedCells
+pub mod NameLists

@@ -3,8 +3,8 @@ use Rattle.std.proofs.Common.{◌≡◌, ℕ, ◌+◌, ◌≤◌, List, [], ◌�
 use Rattle.std.specs.List.{AllByRecursion}
 use Rattle.std.proofs.lemmas.Slice.Eq.{bytes_eq-Decides}
 use Rattle.market_amounts.specs.declared.keys.ProductKey.{ProductKey}
-use Rattle.market_events.specs.declared.faults.BodyError.{BodyError}
-use Rattle.market_events.specs.declared.faults.WordFault.{WordFault}
+use Rattle.market_events.specs.declared.texts.faults.BodyError.{BodyError}
+use Rattle.market_events.specs.declared.texts.faults.WordFault.{WordFault}
 use Rattle.market_events.specs.Results.{◌>>=◌}
 use Rattle.market_events.specs.Reading.{Reader, Words, ◌then◌, give, word, any_word, placed, same_text, pieces, key_words, ended, whole}
 use Rattle.market_events.specs.Readers.{no_kind, inside, faults_by, kind_fault}

@@ -1,9 +1,9 @@
 -- The rows of a dashboard, which are read to the last word.
 use Rattle.std.proofs.Common.{◌≡◌, ℕ, zero, suc, ◌+◌, ◌≤◌, List, [], ◌∷◌, ◌++◌, map, length, Result, Ok, Err, refl, ap, sym, ◌∙◌, subst, append-nil, arith}
 use Rattle.std.specs.List.{AllByRecursion}
-use Rattle.market_events.specs.declared.faults.BodyError.{BodyError}
-use Rattle.market_events.specs.declared.faults.WordFault.{WordFault}
-use Rattle.market_events.specs.declared.faults.WordFault.TheVariants.{Field}
+use Rattle.market_events.specs.declared.texts.faults.BodyError.{BodyError}
+use Rattle.market_events.specs.declared.texts.faults.WordFault.{WordFault}
+use Rattle.market_events.specs.declared.texts.faults.WordFault.TheVariants.{Field}
 use Rattle.market_events.specs.declared.replies.EntryRow.{EntryRow}
 use Rattle.market_events.specs.Results.{◌>>=◌}
 use Rattle.market_events.specs.Reading.{Words, placed, row_of, rows_from, rows}

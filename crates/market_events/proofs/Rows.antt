@@ -1,8 +1,8 @@
 -- The rows of a dashboard, one word after the other.
 use Rattle.std.proofs.Common.{◌≡◌, ◌≤◌, ◌<◌, ℕ, zero, suc, ◌+◌, ◌-◌, List, [], ◌∷◌, ◌++◌, length, Result, Ok, Err, refl, ap, sym, ◌∙◌, append_assoc, length-append, arith}
-use Rattle.market_events.specs.declared.faults.BodyError.{BodyError}
-use Rattle.market_events.specs.declared.faults.BodyError.TheVariants as bad
-use Rattle.market_events.specs.declared.faults.WordFault.{WordFault}
+use Rattle.market_events.specs.declared.texts.faults.BodyError.{BodyError}
+use Rattle.market_events.specs.declared.texts.faults.BodyError.TheVariants as bad
+use Rattle.market_events.specs.declared.texts.faults.WordFault.{WordFault}
 use Rattle.market_events.specs.declared.replies.EntryRow.{EntryRow}
 use Rattle.market_events.specs.Results.{◌>>=◌}
 use Rattle.market_events.specs.Reading.{Words, row_of, rows, rows_from, fault_at}

@@ -1,8 +1,8 @@
 -- What a reader's answer says of the value whose text it read.
 use Rattle.std.proofs.Common.{◌≡◌, ℕ, List, Result, Ok, Err, IfOk, MatchResult, ◌⊎◌, inl, inr, refl, sym, ap, ◌∙◌}
-use Rattle.market_events.specs.declared.faults.BodyError.{BodyError}
-use Rattle.market_events.specs.declared.faults.BodyFault.{BodyFault}
-use Rattle.market_events.specs.declared.faults.BodyFault.TheVariants.{Bad, OutOfMemory}
+use Rattle.market_events.specs.declared.texts.faults.BodyError.{BodyError}
+use Rattle.market_events.specs.declared.texts.faults.BodyFault.{BodyFault}
+use Rattle.market_events.specs.declared.texts.faults.BodyFault.TheVariants.{Bad, OutOfMemory}
 use Rattle.market_events.specs.Readers.{TellsFault, with_fault}
 use Rattle.market_events.proofs.ReaderLaws.{ok_same}
 

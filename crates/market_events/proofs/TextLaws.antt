@@ -1,7 +1,7 @@
 -- Each well-formed request, reply and body is read of its text, and of no other one.
 use Rattle.std.proofs.Common.{◌≡◌, ℕ, List, Result, Ok, ◌↔◌, sym, ap, ◌∙◌, arith}
 use Rattle.market_events.specs.declared.bodies.Body.{Body}
-use Rattle.market_events.specs.declared.faults.BodyError.{BodyError}
+use Rattle.market_events.specs.declared.texts.faults.BodyError.{BodyError}
 use Rattle.market_events.specs.declared.replies.Reply.{Reply}
 use Rattle.market_events.specs.declared.requests.Request.{Request}
 use Rattle.market_events.specs.Readers.{body_named, reply_named, request_of_text, reply_of_text, body_of_text}

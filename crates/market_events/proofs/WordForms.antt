@@ -8,8 +8,8 @@ use Rattle.market_amounts.specs.declared.keys.ProductKey.{ProductKey}
 use Rattle.market_amounts.specs.declared.keys.RequestId.{RequestId}
 use Rattle.market_events.specs.declared.bodies.PricedLine.{PricedLine}
 use Rattle.market_events.specs.declared.bodies.Item.{Item}
-use Rattle.market_events.specs.declared.faults.WordFault.{WordFault}
-use Rattle.market_events.specs.declared.faults.WordFault.TheVariants.{Field}
+use Rattle.market_events.specs.declared.texts.faults.WordFault.{WordFault}
+use Rattle.market_events.specs.declared.texts.faults.WordFault.TheVariants.{Field}
 use Rattle.market_events.specs.declared.replies.EntryRow.{EntryRow}
 use Rattle.market_events.specs.declared.replies.OrderStatus.{OrderStatus}
 use Rattle.market_events.specs.Reading.{pieces, both, onto, all_of, number_up_to, number_id, cents, quantity, key_in, id_of_pieces, id_of, key_of_pieces, key_of, line_of_pieces, line_of, ruled_lines, lines_of, item_of_pieces, item_of, ruled_items, items_of, status_of, in_progress, row_of_pieces, row_of}

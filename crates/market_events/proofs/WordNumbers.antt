@@ -11,8 +11,8 @@ use Rattle.market_amounts.specs.Numbers.{number_of}
 use Rattle.market_amounts.proofs.Decimals.{IsDigit, decimal_digits}
 use Rattle.market_amounts.proofs.Spelling.{number_reads, number_spelled}
 use Rattle.market_events.specs.declared.bodies.PricedLine.{PricedLine}
-use Rattle.market_events.specs.declared.faults.WordFault.{WordFault}
-use Rattle.market_events.specs.declared.faults.WordFault.TheVariants.{Range}
+use Rattle.market_events.specs.declared.texts.faults.WordFault.{WordFault}
+use Rattle.market_events.specs.declared.texts.faults.WordFault.TheVariants.{Range}
 use Rattle.market_events.specs.Reading.{spelled_number, number_up_to, above_zero, number_id, cents, quantity, this_total}
 use Rattle.market_events.specs.Results.{◌>>=◌}
 use Rattle.market_events.specs.WellFormed.{id_max, cents_max, quantity_max, pieces_max, limit_max, total_max, amount_max, IsId, AreCents, ArePieces, IsQuantity, IsLine, AreLines, total_of}

@@ -2,8 +2,8 @@
 use Rattle.std.proofs.Common.{◌≡◌, ℕ, Bool, true, false, cond, List, [], ◌∷◌, map, Result, Ok, Err, if◌then◌else◌, refl, ap, subst, ◌∙◌}
 use Rattle.std.specs.List.{AllByRecursion}
 use Rattle.std.proofs.lemmas.Slice.Eq.{bytes_eq-Decides}
-use Rattle.market_events.specs.declared.faults.WordFault.{WordFault}
-use Rattle.market_events.specs.declared.faults.WordFault.TheVariants.{Field, Range}
+use Rattle.market_events.specs.declared.texts.faults.WordFault.{WordFault}
+use Rattle.market_events.specs.declared.texts.faults.WordFault.TheVariants.{Field, Range}
 use Rattle.market_events.specs.Reading.{same_text, both, onto, all_of}
 use Rattle.market_events.specs.Results.{◌>>=◌}
 use Rattle.market_events.proofs.WordCuts.{Lacks, lacks, lacks_by_test}

@@ -2,9 +2,9 @@
 use Rattle.std.specs.Prelude.{◌≡◌, MatchResult, ℕ, ◌+◌, Bool, true, not, ◌||◌, nat_lt, length, List, [], ◌∷◌, Option, Some, None, Result, Ok, Err}
 use Rattle.std.specs.Borrow.{Bor}
 use Rattle.market_events.specs.declared.bodies.PricedLine.{PricedLine}
-use Rattle.market_events.specs.declared.faults.BodyError.{BodyError}
-use Rattle.market_events.specs.declared.faults.BodyFault.{BodyFault}
-use Rattle.market_events.specs.declared.faults.WordFault.{WordFault}
+use Rattle.market_events.specs.declared.texts.faults.BodyError.{BodyError}
+use Rattle.market_events.specs.declared.texts.faults.BodyFault.{BodyFault}
+use Rattle.market_events.specs.declared.texts.faults.WordFault.{WordFault}
 use Rattle.market_events.specs.declared.replies.OrderStatus.{OrderStatus}
 use Rattle.market_events.specs.Reading.{Words, pieces, status_of, in_progress}
 use Rattle.market_events.specs.Readers.{TellsFault}

@@ -43,3 +43,5 @@ pub mod ExamplesBase
 pub mod ExamplesCells
 pub mod AnswerShape
 pub mod Standing
+pub mod CellNames
+pub mod CellLists

@@ -10,12 +10,12 @@ use Rattle.market_events.specs.declared.bodies.Body.{Body}
 use Rattle.market_events.specs.declared.bodies.Body.TheVariants as body
 use Rattle.market_events.specs.declared.changes.Change.{Change}
 use Rattle.market_events.specs.declared.changes.Change.TheVariants as change
-use Rattle.market_events.specs.declared.faults.BodyError.{BodyError}
-use Rattle.market_events.specs.declared.faults.BodyError.TheVariants as bad
-use Rattle.market_events.specs.declared.faults.BodyFault.{BodyFault}
-use Rattle.market_events.specs.declared.faults.BodyFault.TheVariants.{Bad, OutOfMemory}
-use Rattle.market_events.specs.declared.faults.WordFault.{WordFault}
-use Rattle.market_events.specs.declared.faults.WordFault.TheVariants.{Field}
+use Rattle.market_events.specs.declared.texts.faults.BodyError.{BodyError}
+use Rattle.market_events.specs.declared.texts.faults.BodyError.TheVariants as bad
+use Rattle.market_events.specs.declared.texts.faults.BodyFault.{BodyFault}
+use Rattle.market_events.specs.declared.texts.faults.BodyFault.TheVariants.{Bad, OutOfMemory}
+use Rattle.market_events.specs.declared.texts.faults.WordFault.{WordFault}
+use Rattle.market_events.specs.declared.texts.faults.WordFault.TheVariants.{Field}
 use Rattle.market_events.specs.declared.replies.Reply.{Reply}
 use Rattle.market_events.specs.declared.replies.Reply.TheVariants as reply
 use Rattle.market_events.specs.declared.replies.Rule.{Rule}

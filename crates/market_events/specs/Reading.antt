@@ -10,10 +10,10 @@ use Rattle.market_amounts.specs.declared.numbers.NumberError.TheVariants as numb
 use Rattle.market_amounts.specs.Numbers.{number_of}
 use Rattle.market_events.specs.declared.bodies.PricedLine.{PricedLine}
 use Rattle.market_events.specs.declared.bodies.Item.{Item}
-use Rattle.market_events.specs.declared.faults.BodyError.{BodyError}
-use Rattle.market_events.specs.declared.faults.BodyError.TheVariants as bad
-use Rattle.market_events.specs.declared.faults.WordFault.{WordFault}
-use Rattle.market_events.specs.declared.faults.WordFault.TheVariants.{Field, Range}
+use Rattle.market_events.specs.declared.texts.faults.BodyError.{BodyError}
+use Rattle.market_events.specs.declared.texts.faults.BodyError.TheVariants as bad
+use Rattle.market_events.specs.declared.texts.faults.WordFault.{WordFault}
+use Rattle.market_events.specs.declared.texts.faults.WordFault.TheVariants.{Field, Range}
 use Rattle.market_events.specs.declared.replies.EntryRow.{EntryRow}
 use Rattle.market_events.specs.declared.replies.OrderStatus.{OrderStatus}
 use Rattle.market_events.specs.declared.replies.OrderStatus.TheVariants as status

@@ -1,5 +1,5 @@
 -- The request of a workload record, or the first rule that the record breaks.
-use Rattle.std.specs.Prelude.{ℕ, List, [], ◌∷◌, Result, Ok, Err, if◌then◌else◌, codes}
+use Rattle.std.specs.Prelude.{ℕ, ◌==◌, List, [], ◌∷◌, Result, Ok, Err, if◌then◌else◌, codes}
 use Rattle.std.specs.Cmp.Lexicographic.{pointwise}
 use Rattle.std.specs.Prelude.{nat_eq}
 use Rattle.market_amounts.specs.declared.keys.ProductKey.{ProductKey}
@@ -36,6 +36,16 @@ id_number_of text = number_up_to 4_294_967_295 text
 abbrev pub cents_of : List ℕ → Result ℕ WorkRule
 cents_of text = number_up_to 1_000_000_000 text
 
+-- a number of pieces, which is out of range where it is 0
+abbrev pub not_zero : ℕ → Result ℕ WorkRule
+not_zero n = if n == 0 then Err broken.Range else Ok n
+
+abbrev pub quantity_of : List ℕ → Result ℕ WorkRule
+quantity_of text = number_up_to 1_000 text >>= not_zero
+
+abbrev pub pieces_of : List ℕ → Result ℕ WorkRule
+pieces_of text = number_up_to 1_000_000_000 text >>= not_zero
+
 abbrev pub key_of : List ℕ → List ℕ → Result ProductKey WorkRule
 key_of seller product = id_number_of seller >>= λ s. id_number_of product >>= λ p. Ok (record { seller = s; product = p })
 
@@ -52,6 +62,10 @@ abbrev pub of_four : {B : Type 0} → (List ℕ → List ℕ → List ℕ → Li
 of_four f (a ∷ b ∷ c ∷ d ∷ []) = f a b c d
 of_four f arguments = Err broken.Fields
 
+abbrev pub of_five : {B : Type 0} → (List ℕ → List ℕ → List ℕ → List ℕ → List ℕ → Result B WorkRule) → List (List ℕ) → Result B WorkRule
+of_five f (a ∷ b ∷ c ∷ d ∷ e ∷ []) = f a b c d e
+of_five f arguments = Err broken.Fields
+
 abbrev pub create_of : List (List ℕ) → Result Ask WorkRule
 create_of = of_four (λ seller product price freight.
     key_of seller product >>= λ key. cents_of price >>= λ p. cents_of freight >>= λ f. Ok (ask.Create key p f))
@@ -59,15 +73,37 @@ create_of = of_four (λ seller product price freight.
 abbrev pub price_of : List (List ℕ) → Result Ask WorkRule
 price_of = of_three (λ seller product price. key_of seller product >>= λ key. cents_of price >>= λ p. Ok (ask.Price key p))
 
+abbrev pub delete_of : List (List ℕ) → Result Ask WorkRule
+delete_of = of_two (λ seller product. key_of seller product >>= λ key. Ok (ask.Delete key))
+
 abbrev pub view_of : List (List ℕ) → Result Ask WorkRule
 view_of = of_two (λ seller product. key_of seller product >>= λ key. Ok (ask.View key))
+
+abbrev pub line_of : List (List ℕ) → Result Ask WorkRule
+line_of = of_five (λ customer seller product quantity voucher.
+    id_number_of customer >>= λ c. key_of seller product >>= λ key. quantity_of quantity >>= λ q. cents_of voucher >>= λ v.
+    Ok (ask.Line c key q v))
+
+abbrev pub remove_of : List (List ℕ) → Result Ask WorkRule
+remove_of = of_three (λ customer seller product. id_number_of customer >>= λ c. key_of seller product >>= λ key. Ok (ask.Remove c key))
+
+abbrev pub stock_of : List (List ℕ) → Result Ask WorkRule
+stock_of = of_three (λ seller product pieces. key_of seller product >>= λ key. pieces_of pieces >>= λ p. Ok (ask.Stock key p))
+
+abbrev pub level_of : List (List ℕ) → Result Ask WorkRule
+level_of = of_two (λ seller product. key_of seller product >>= λ key. Ok (ask.Level key))
 
 -- what a kind asks for with these arguments
 abbrev pub ask_named : List ℕ → List (List ℕ) → Result Ask WorkRule
 ask_named kind arguments =
     if pointwise nat_eq kind (codes "create") then create_of arguments
     else if pointwise nat_eq kind (codes "price") then price_of arguments
+    else if pointwise nat_eq kind (codes "delete") then delete_of arguments
     else if pointwise nat_eq kind (codes "view") then view_of arguments
+    else if pointwise nat_eq kind (codes "line") then line_of arguments
+    else if pointwise nat_eq kind (codes "remove") then remove_of arguments
+    else if pointwise nat_eq kind (codes "stock") then stock_of arguments
+    else if pointwise nat_eq kind (codes "level") then level_of arguments
     else Err broken.Kind
 
 -- the request of a record

@@ -3,7 +3,8 @@
 #![tactic(auto)]
 
 mod bodies;
-mod body_words;
+mod cell_lists;
+mod cell_names;
 mod cells;
 mod changes;
 mod counts;
@@ -11,44 +12,40 @@ mod counts;
 mod event_tests;
 mod events;
 pub mod examples;
-mod faults;
-mod forms;
 pub mod laws;
 #[cfg(test)]
 mod link_tests;
 mod links;
-mod lists;
-mod names;
+mod name_lists;
 mod nodes;
 mod outs;
-mod pieces;
-mod readers;
 mod replies;
-mod reply_words;
-mod request_words;
 mod requests;
 mod service;
 #[cfg(test)]
 mod tests;
-mod text_parts;
 #[cfg(test)]
 mod text_tests;
 mod texts;
-mod words;
 mod workload;
 
 pub use bodies::{Body, Ending, Item, PayRule, PricedLine, StockRule};
+pub use cell_lists::{CellList, value_or_empty};
+pub use cell_names::{
+    basket_name, basket_named, id_name, id_named, key_name, key_named, number_name, number_named,
+};
 pub use cells::{Cell, CellName};
 pub use changes::{Change, Look};
 pub use counts::Counts;
 pub use events::{Entry, Event, Offer, What};
-pub use faults::{BodyError, BodyFault};
 pub use links::{Link, SERVICE_LINKS, link_index, receiver_of, sender_of, service_of};
+pub use name_lists::NameList;
 pub use nodes::Node;
 pub use outs::{MOST_OUTS, Outs};
-pub use readers::{read_body, read_reply, read_request};
 pub use replies::{EntryRow, OrderStatus, Reply, Rule, UndoneRule};
 pub use requests::{Ask, Request};
 pub use service::{Service, Tabled};
-pub use texts::{body_text, reply_text, request_text};
+pub use texts::{
+    BodyError, BodyFault, body_text, read_body, read_reply, read_request, reply_text, request_text,
+};
 pub use workload::{WorkRule, read_fields};

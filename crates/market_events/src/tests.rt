@@ -1,7 +1,7 @@
 //! The values are worked out by hand.
 
 use crate::{Ask, Node, Reply, Request, Rule, WorkRule, read_fields, reply_text};
-use market_amounts::{Cents, ProductKey, RequestId};
+use market_amounts::{Cents, ProductKey, Quantity, RequestId};
 use std::alloc::{AllocError, Global};
 use std::test::Fail;
 
@@ -17,10 +17,19 @@ fn records_are_read(rt: HostRuntime) -> Result<(), Fail> {
     };
     let price = Cents::try_new(1000)?;
     let freight = Cents::try_new(50)?;
+    let quantity = Quantity::try_new(1000)?;
     for (record, ask) in [
         ("7,1,create,5,10,1000,50", Ask::Create(key, price, freight)),
         ("7,1,price,5,10,1000", Ask::Price(key, price)),
+        ("7,1,delete,5,10", Ask::Delete(key)),
         ("7,1,view,5,10", Ask::View(key)),
+        (
+            "7,1,line,7,5,10,1000,50",
+            Ask::Line(7, key, quantity, freight),
+        ),
+        ("7,1,remove,7,5,10", Ask::Remove(7, key)),
+        ("7,1,stock,5,10,1000000000", Ask::Stock(key, 1_000_000_000)),
+        ("7,1,level,5,10", Ask::Level(key)),
     ] {
         let fields = fields_of(rt.alloc(), record)?;
         assert_eq!(rt;
@@ -47,7 +56,13 @@ fn records_are_refused(rt: HostRuntime) -> Result<(), Fail> {
         ("4294967296,1,view,1,1", WorkRule::Range),
         ("7,1,price,4294967296,x,1000", WorkRule::Range),
         ("3,1,paint,5", WorkRule::Kind),
-        ("7,1,line,7,5,10,1,0", WorkRule::Kind),
+        ("7,1,line,7,5,10,0,0", WorkRule::Range),
+        ("7,1,line,7,5,10,1001,0", WorkRule::Range),
+        ("7,1,line,7,5,10,1", WorkRule::Fields),
+        ("7,1,line,7,5,10,01,0", WorkRule::Number),
+        ("7,1,stock,5,10,0", WorkRule::Range),
+        ("7,1,stock,5,10,1000000001", WorkRule::Range),
+        ("7,1,checkout,7", WorkRule::Kind),
         ("7,1,,5,10", WorkRule::Kind),
         ("7,1,View,5,10", WorkRule::Kind),
     ] {

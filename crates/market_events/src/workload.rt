@@ -1,12 +1,16 @@
 //! The records of a workload.
 
-ghost use Rattle.std.specs.Prelude.{◌≡◌, ◌≢◌, true, map, length, IfOk, MatchResult};
-ghost use Rattle.market_events.specs.Answers.{is_run};
-ghost use Rattle.market_events.specs.Workload.{request_of, ask_named, create_of, price_of, view_of, key_of, id_number_of, cents_of, number_up_to};
+ghost use Rattle.std.specs.Prelude.{◌≡◌, ◌≢◌, ◌≤◌, true, map, length, IfOk, MatchResult};
+ghost use Rattle.market_events.specs.Answers.{is_run, IsRun};
+ghost use Rattle.market_events.specs.WellFormed.{IsAsk, IsRequest, ArePieces};
+ghost use Rattle.market_events.specs.Workload.{request_of, ask_named, create_of, price_of, delete_of, view_of, line_of, remove_of, stock_of, level_of, key_of, id_number_of, cents_of, quantity_of, pieces_of, number_up_to};
 
 use crate::requests::{Ask, Request};
-use market_amounts::{Cents, NumberError, ProductKey, RequestId, read_number};
+use market_amounts::{Cents, NumberError, ProductKey, Quantity, RequestId, read_number};
 use thiserror::Error;
+
+// The most pieces that a request stocks.
+const MOST_PIECES: u64 = 1_000_000_000;
 
 /// The rules of a workload record.
 #[derive(Clone, Copy, Debug, PartialEq, Eq, Error)]
@@ -30,7 +34,8 @@ pub enum WorkRule {
 /// range of each argument in turn.
 pub fn read_fields(fields: &[Vec<u8>]) -> Result<Request, WorkRule>
     ensures exact { result ≡ request_of (map (λ field. field.items) fields.now) }
-    ensures run { IfOk result (λ request. is_run request.ask ≡ true) }
+    ensures run { IfOk result IsRun }
+    ensures formed { IfOk result IsRequest }
 {
     let [caller, number, kind, arguments @ ..] = fields else {
         return Err(WorkRule::Fields);
@@ -47,13 +52,24 @@ pub fn read_fields(fields: &[Vec<u8>]) -> Result<Request, WorkRule>
 fn ask_of_kind(kind: &[u8], arguments: &[Vec<u8>]) -> Result<Ask, WorkRule>
     ensures exact { result ≡ ask_named kind.now (map (λ field. field.items) arguments.now) }
     ensures run { IfOk result (λ ask. is_run ask ≡ true) }
+    ensures formed { IfOk result IsAsk }
 {
     if kind == b"create".as_slice() {
         create(arguments)
     } else if kind == b"price".as_slice() {
         price(arguments)
+    } else if kind == b"delete".as_slice() {
+        delete(arguments)
     } else if kind == b"view".as_slice() {
         view(arguments)
+    } else if kind == b"line".as_slice() {
+        line(arguments)
+    } else if kind == b"remove".as_slice() {
+        remove(arguments)
+    } else if kind == b"stock".as_slice() {
+        stock(arguments)
+    } else if kind == b"level".as_slice() {
+        level(arguments)
     } else {
         Err(WorkRule::Kind)
     }
@@ -63,6 +79,7 @@ fn ask_of_kind(kind: &[u8], arguments: &[Vec<u8>]) -> Result<Ask, WorkRule>
 fn create(arguments: &[Vec<u8>]) -> Result<Ask, WorkRule>
     ensures exact { result ≡ create_of (map (λ field. field.items) arguments.now) }
     ensures run { IfOk result (λ ask. is_run ask ≡ true) }
+    ensures formed { IfOk result IsAsk }
 {
     let [seller, product, price, freight] = exactly::<4>(arguments)?;
     let key = key(seller, product)?;
@@ -75,6 +92,7 @@ fn create(arguments: &[Vec<u8>]) -> Result<Ask, WorkRule>
 fn price(arguments: &[Vec<u8>]) -> Result<Ask, WorkRule>
     ensures exact { result ≡ price_of (map (λ field. field.items) arguments.now) }
     ensures run { IfOk result (λ ask. is_run ask ≡ true) }
+    ensures formed { IfOk result IsAsk }
 {
     let [seller, product, price] = exactly::<3>(arguments)?;
     let key = key(seller, product)?;
@@ -83,13 +101,74 @@ fn price(arguments: &[Vec<u8>]) -> Result<Ask, WorkRule>
 }
 
 #[tactic(auto, using(crate::proofs::FieldCounts::counts))]
+fn delete(arguments: &[Vec<u8>]) -> Result<Ask, WorkRule>
+    ensures exact { result ≡ delete_of (map (λ field. field.items) arguments.now) }
+    ensures run { IfOk result (λ ask. is_run ask ≡ true) }
+    ensures formed { IfOk result IsAsk }
+{
+    let [seller, product] = exactly::<2>(arguments)?;
+    let key = key(seller, product)?;
+    Ok(Ask::Delete(key))
+}
+
+#[tactic(auto, using(crate::proofs::FieldCounts::counts))]
 fn view(arguments: &[Vec<u8>]) -> Result<Ask, WorkRule>
     ensures exact { result ≡ view_of (map (λ field. field.items) arguments.now) }
     ensures run { IfOk result (λ ask. is_run ask ≡ true) }
+    ensures formed { IfOk result IsAsk }
 {
     let [seller, product] = exactly::<2>(arguments)?;
     let key = key(seller, product)?;
     Ok(Ask::View(key))
+}
+
+#[tactic(auto, using(crate::proofs::FieldCounts::counts))]
+fn line(arguments: &[Vec<u8>]) -> Result<Ask, WorkRule>
+    ensures exact { result ≡ line_of (map (λ field. field.items) arguments.now) }
+    ensures run { IfOk result (λ ask. is_run ask ≡ true) }
+    ensures formed { IfOk result IsAsk }
+{
+    let [customer, seller, product, quantity, voucher] = exactly::<5>(arguments)?;
+    let customer = id_number(customer)?;
+    let key = key(seller, product)?;
+    let quantity = line_quantity(quantity)?;
+    let voucher = cents(voucher)?;
+    Ok(Ask::Line(customer, key, quantity, voucher))
+}
+
+#[tactic(auto, using(crate::proofs::FieldCounts::counts))]
+fn remove(arguments: &[Vec<u8>]) -> Result<Ask, WorkRule>
+    ensures exact { result ≡ remove_of (map (λ field. field.items) arguments.now) }
+    ensures run { IfOk result (λ ask. is_run ask ≡ true) }
+    ensures formed { IfOk result IsAsk }
+{
+    let [customer, seller, product] = exactly::<3>(arguments)?;
+    let customer = id_number(customer)?;
+    let key = key(seller, product)?;
+    Ok(Ask::Remove(customer, key))
+}
+
+#[tactic(auto, using(crate::proofs::FieldCounts::counts))]
+fn stock(arguments: &[Vec<u8>]) -> Result<Ask, WorkRule>
+    ensures exact { result ≡ stock_of (map (λ field. field.items) arguments.now) }
+    ensures run { IfOk result (λ ask. is_run ask ≡ true) }
+    ensures formed { IfOk result IsAsk }
+{
+    let [seller, product, pieces] = exactly::<3>(arguments)?;
+    let key = key(seller, product)?;
+    let pieces = stocked_pieces(pieces)?;
+    Ok(Ask::Stock(key, pieces))
+}
+
+#[tactic(auto, using(crate::proofs::FieldCounts::counts))]
+fn level(arguments: &[Vec<u8>]) -> Result<Ask, WorkRule>
+    ensures exact { result ≡ level_of (map (λ field. field.items) arguments.now) }
+    ensures run { IfOk result (λ ask. is_run ask ≡ true) }
+    ensures formed { IfOk result IsAsk }
+{
+    let [seller, product] = exactly::<2>(arguments)?;
+    let key = key(seller, product)?;
+    Ok(Ask::Level(key))
 }
 
 // The arguments, where there are as many as the kind has.
@@ -120,6 +199,25 @@ fn cents(text: &[u8]) -> Result<Cents, WorkRule>
 {
     let number = number(text, Cents::MAX)?;
     Cents::try_new(number).map_err(|_| WorkRule::Range)
+}
+
+fn line_quantity(text: &[u8]) -> Result<Quantity, WorkRule>
+    ensures { result ≡ quantity_of text.now }
+{
+    let number = number(text, u64::from(Quantity::MAX))?;
+    Quantity::try_new(number as u32).map_err(|_| WorkRule::Range)
+}
+
+// Pieces that are stocked, 1 or more.
+fn stocked_pieces(text: &[u8]) -> Result<u32, WorkRule>
+    ensures value { result ≡ pieces_of text.now }
+    ensures in_range { IfOk result (λ pieces. (1 ≤ pieces) × ArePieces pieces) }
+{
+    let number = number(text, MOST_PIECES)?;
+    if number == 0 {
+        return Err(WorkRule::Range);
+    }
+    Ok(number as u32)
 }
 
 // A number up to a limit, by its spelling and then its range.

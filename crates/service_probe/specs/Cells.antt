@@ -1,14 +1,11 @@
 -- The cells of the customers, by the entries of a table.
-use Rattle.std.specs.Prelude.{◌≡◌, ℕ, ◌≤◌, Bool, ◌==◌, ◌&&◌, List, [], ◌∷◌, Option, Some, None, length, map, filter_map, fold, codes, if◌then◌else◌}
+use Rattle.std.specs.Prelude.{ℕ, Bool, ◌==◌, ◌&&◌, List, [], ◌∷◌, Option, Some, None, codes, if◌then◌else◌}
 use Rattle.std.specs.Fmt.{decimal}
-use Rattle.std.specs.FinMap.Entries as entries
-use Rattle.std.specs.List.{list_any}
-use Rattle.std.specs.List.Sorted.{IsStrictlySortedBy}
-use Rattle.std.specs.Ordering.{nat_cmp}
-use Rattle.market_events.specs.declared.bodies.Item.{Item}
+use Rattle.std.specs.Map.{keys_of}
 use Rattle.market_events.specs.declared.cells.Cell.{Cell}
 use Rattle.market_events.specs.declared.cells.CellName.{CellName}
-use Rattle.market_events.specs.Cells.{name_cmp}
+use Rattle.market_events.specs.CellLists.{key_cell, cells_by}
+use Rattle.market_events.specs.CellNames.{number_name}
 use Rattle.market_events.specs.Texts.{spaced}
 use Rattle.service_probe.specs.declared.tallies.Tally.{Tally}
 use Rattle.service_probe.specs.Tallies.{tally_at}
@@ -20,27 +17,17 @@ abbrev pub tally_text : Tally → List ℕ
 tally_text t = spaced (decimal t.confirmed ∷ decimal t.failed ∷ decimal t.delivered ∷ [])
 
 abbrev pub name_by : ℕ → CellName
-name_by customer = record { table = codes "customer"; key = decimal customer }
+name_by customer = number_name (codes "customer") customer
 
--- the cell of a customer of whom something was counted
+-- the text of a customer of whom something was counted
+abbrev pub text_by : Tally → Option (List ℕ)
+text_by t = if is_nothing t then None else Some (tally_text t)
+
 abbrev pub cell_by : ℕ → Tally → Option Cell
-cell_by customer t = if is_nothing t then None else Some (record { name = name_by customer; value = tally_text t })
+cell_by customer t = key_cell name_by (λ _. text_by t) customer
 
-abbrev pub put_some : List (CellName × List ℕ) → Option Cell → List (CellName × List ℕ)
-put_some es None = es
-put_some es (Some c) = entries.put name_cmp c.name c.value es
+abbrev pub texts_in : List (ℕ × Tally) → ℕ → Option (List ℕ)
+texts_in table customer = text_by (tally_at table customer)
 
-abbrev pub table_cells : List (ℕ × Tally) → List ℕ → List Cell
-table_cells table customers = filter_map (λ c. cell_by c (tally_at table c)) customers
-
--- the names are those of the customers of the items, each once
-pub record AreNamesOf (names : List CellName) (items : List Item) : Type 0 where
-  pub customers : List ℕ
-  pub named : names ≡ map name_by customers
-  pub rising : IsStrictlySortedBy nat_cmp customers
-  pub each : (c : ℕ) → list_any (λ d. c == d) customers ≡ list_any (λ (i : Item). c == i.customer) items
-  pub few : length customers ≤ length items
-
--- the cells of these customers by name, as they are put one after the other
-abbrev pub named_by : List (ℕ × Tally) → List ℕ → List (CellName × List ℕ)
-named_by table customers = fold (λ es c. put_some es (cell_by c (tally_at table c))) [] customers
+abbrev pub table_cells : List (ℕ × Tally) → List Cell
+table_cells table = cells_by name_by (texts_in table) (keys_of table)

@@ -5,9 +5,11 @@ ghost use Rattle.market_events.specs.Customers.{customer_asked};
 ghost use Rattle.market_events.specs.Services.{Role};
 ghost use Rattle.service_probe.specs.Tallies.{sums_at, IsCounted};
 
-use crate::names::{cells_of, customer_named, name_of, names_of, text_of};
-use crate::tallies::{Tally, ZERO, count, make_room, set, tally_of};
-use market_events::{Ask, Body, Cell, CellName, Link, Outs, Reply, Request, Service, Tabled};
+use crate::names::{cells_of, name_of, names_of, value_named};
+use crate::tallies::{Tally, count, make_room, set, tally_of};
+use market_events::{
+    Ask, Body, Cell, CellName, Link, Outs, Reply, Request, Service, Tabled, value_or_empty,
+};
 use std::alloc::{AllocError, Global};
 use std::collections::BTreeMap;
 use std::marker::Model;
@@ -90,14 +92,8 @@ impl Tabled for Customers {
     }
 
     fn value(&self, name: &CellName) -> Result<Vec<u8>, AllocError> {
-        let Some(customer) = customer_named(name) else {
-            return Ok(Vec::new(self.alloc));
-        };
-        let tally = tally_of(&self.tallies, customer);
-        if tally == ZERO {
-            return Ok(Vec::new(self.alloc));
-        }
-        text_of(self.alloc, tally)
+        let value = value_named(self.alloc, &self.tallies, name)?;
+        Ok(value_or_empty(self.alloc, value))
     }
 }
 

@@ -1,20 +1,20 @@
 //! Names and values of the customers' cells.
 
-ghost use Rattle.std.specs.Prelude.{◌≡◌, ℕ, ◌<◌, ◌≤◌, ◌^◌, ◌==◌, length, Some, IfOk, OnOk, IfSome};
-ghost use Rattle.std.specs.BTreeSet as bag;
-ghost use Rattle.std.specs.List.{list_any};
-ghost use Rattle.std.specs.List.Sorted.{IsStrictlySortedBy};
-ghost use Rattle.std.specs.Ordering.{nat_cmp};
+ghost use Rattle.std.specs.Prelude.{◌≡◌, ℕ, ◌<◌, ◌≤◌, ◌^◌, length, Some, IfOk, OnOk, IfSome};
+ghost use Rattle.std.specs.List.{IsDistinct, list_any};
 ghost use Rattle.market_events.specs.declared.bodies.Item.{Item};
-ghost use Rattle.std.specs.Map.{keys_of};
+ghost use Rattle.market_events.specs.declared.cells.CellName.{CellName};
 ghost use Rattle.market_events.specs.Cells.{cells_listed};
-ghost use Rattle.service_probe.specs.Cells.{tally_text, name_by, cell_by, put_some, named_by, table_cells, AreNamesOf};
+ghost use Rattle.market_events.specs.CellLists.{Within, put_some, put_all, last_value};
+ghost use Rattle.market_events.specs.Standing.{same_name, is_named};
+ghost use Rattle.market_events.specs.WellFormed.{IsId};
+ghost use Rattle.service_probe.specs.Cells.{name_by, text_by, cell_by, texts_in, table_cells};
 
 use crate::tallies::{Tally, ZERO, tally_of};
-use market_amounts::{List, read_number};
-use market_events::{Cell, CellName, Item};
+use market_amounts::List;
+use market_events::{Cell, CellList, CellName, Item, NameList, number_name, number_named};
 use std::alloc::{AllocError, Global};
-use std::collections::{BTreeMap, BTreeSet};
+use std::collections::BTreeMap;
 
 const TABLE: &[u8] = b"customer";
 
@@ -22,101 +22,88 @@ const TABLE: &[u8] = b"customer";
 pub fn name_of(alloc: Global, customer: u32) -> Result<CellName, AllocError>
     ensures { IfOk result (λ name. name ≡ name_by customer) }
 {
-    let table = List::from_slice(alloc, TABLE)?;
-    let key = format!(in alloc; "{customer}")?;
-    Ok(CellName {
-        table,
-        key: List::from_vec(key.into_bytes()),
-    })
+    number_name(alloc, TABLE, customer)
 }
 
-// The text of what is counted of a customer.
-pub fn text_of(alloc: Global, tally: Tally) -> Result<Vec<u8>, AllocError>
-    ensures { IfOk result (λ text. text.items ≡ tally_text tally) }
+// The customer whose cell has this name.
+fn customer_named(name: &CellName) -> Option<u32>
+    ensures is { IfSome result (λ customer. name.now ≡ name_by customer) }
+    ensures all { (customer : ℕ) → customer < 2 ^ 32 → name.now ≡ name_by customer → result ≡ Some customer }
 {
+    number_named(TABLE, name)
+}
+
+// The text of what is counted of a customer, none where that is nothing.
+fn text_of(alloc: Global, tally: Tally) -> Result<Option<List<u8>>, AllocError>
+    ensures { IfOk result (λ text. text ≡ text_by tally) }
+{
+    if tally == ZERO {
+        return Ok(None);
+    }
     let confirmed = tally.confirmed;
     let failed = tally.failed;
     let delivered = tally.delivered;
     let text = format!(in alloc; "{confirmed} {failed} {delivered}")?;
-    Ok(text.into_bytes())
+    Ok(Some(List::from_vec(text.into_bytes())))
 }
 
-// The customer whose cell has this name.
-pub fn customer_named(name: &CellName) -> Option<u32>
-    ensures is { IfSome result (λ customer. name.now ≡ name_by customer) }
-    ensures all { (customer : ℕ) → customer < 2 ^ 32 → name.now ≡ name_by customer → result ≡ Some customer }
+// Puts the cell of a customer, where something was counted.
+fn put(alloc: Global, cells: &mut CellList, customer: u32, tally: Tally) -> Result<(), AllocError>
+    ensures { OnOk result (cells.new ≡ put_some cells.old (cell_by customer tally)) }
 {
-    if name.table.as_slice() != TABLE {
-        return None;
-    }
-    let number = read_number(name.key.as_slice(), u64::from(u32::MAX)).ok()?;
-    u32::try_from(number).ok()
-}
-
-// Puts the cell of a customer into a table of cells, where something was counted.
-pub fn put(
-    alloc: Global,
-    cells: &mut BTreeMap<CellName, List<u8>>,
-    customer: u32,
-    tally: Tally,
-) -> Result<(), AllocError>
-    ensures { OnOk result (cells.new.entries ≡ put_some cells.old.entries (cell_by customer tally)) }
-{
-    if tally == ZERO {
+    let Some(text) = text_of(alloc, tally)? else {
         return Ok(());
-    }
+    };
     let name = name_of(alloc, customer)?;
-    let value = List::from_vec(text_of(alloc, tally)?);
-    cells.insert(name, value)?;
-    Ok(())
+    cells.put(name, text)
 }
 
-// The cells of all customers, by name.
-fn named_cells(
+// Puts the cells of all customers.
+fn put_tallies(
     alloc: Global,
     tallies: &BTreeMap<u32, Tally>,
-) -> Result<BTreeMap<CellName, List<u8>>, AllocError>
-    ensures { IfOk result (λ named. named.entries ≡ named_by tallies.now.entries (keys_of tallies.now.entries)) }
+    cells: &mut CellList,
+) -> Result<(), AllocError>
+    ensures { OnOk result (cells.new ≡ put_all cells.old (table_cells tallies.now.entries)) }
 {
-    let mut named = BTreeMap::new(alloc);
     for customer in tallies.keys() {
-        put(alloc, &mut named, *customer, tally_of(tallies, *customer))?;
+        put(alloc, cells, *customer, tally_of(tallies, *customer))?;
     }
-    Ok(named)
+    Ok(())
 }
 
 // The cells of all customers, by rising name.
 pub fn cells_of(alloc: Global, tallies: &BTreeMap<u32, Tally>) -> Result<Vec<Cell>, AllocError>
-    ensures { IfOk result (λ cells. cells.items ≡ cells_listed (table_cells tallies.now.entries (keys_of tallies.now.entries))) }
+    ensures { IfOk result (λ cells. cells.items ≡ cells_listed (table_cells tallies.now.entries)) }
 {
-    let mut cells = Vec::new(alloc);
-    for (name, value) in named_cells(alloc, tallies)? {
-        cells.push(Cell { name, value })?;
-    }
-    Ok(cells)
+    let mut cells = CellList::new(alloc);
+    put_tallies(alloc, tallies, &mut cells)?;
+    cells.into_cells()
 }
 
-// The customers of the items.
-fn customers_of(alloc: Global, items: &[Item]) -> Result<BTreeSet<u32>, AllocError>
-    ensures rising { IfOk result (λ customers. IsStrictlySortedBy nat_cmp customers.keys) }
-    ensures each { IfOk result (λ customers. (c : ℕ) → bag.contains nat_cmp customers c ≡ list_any (λ (i : Item). c == i.customer) items.now) }
-    ensures few { IfOk result (λ customers. length customers.keys ≤ length items.now) }
+// The value at a name, none where it is the name of no cell.
+pub fn value_named(
+    alloc: Global,
+    tallies: &BTreeMap<u32, Tally>,
+    name: &CellName,
+) -> Result<Option<List<u8>>, AllocError>
+    ensures { IfOk result (λ value. Within IsId (texts_in tallies.now.entries) → value ≡ last_value name.now (table_cells tallies.now.entries)) }
 {
-    let mut customers = BTreeSet::new(alloc);
-    for item in items {
-        customers.insert(item.customer)?;
-    }
-    Ok(customers)
+    let Some(customer) = customer_named(name) else {
+        return Ok(None);
+    };
+    text_of(alloc, tally_of(tallies, customer))
 }
 
 // The names of the cells of the items' customers, each once.
 pub fn names_of(alloc: Global, items: &[Item]) -> Result<Vec<CellName>, AllocError>
-    ensures { IfOk result (λ names. AreNamesOf names.items items.now) }
+    ensures named { IfOk result (λ names. (name : CellName) → is_named names.items name ≡ list_any (λ (i : Item). same_name name (name_by i.customer)) items.now) }
+    ensures differ { IfOk result (λ names. IsDistinct same_name names.items) }
+    ensures few { IfOk result (λ names. length names.items ≤ length items.now) }
 {
-    let customers = customers_of(alloc, items)?;
-    let mut names = Vec::new(alloc);
-    for customer in &customers {
-        names.push(name_of(alloc, *customer)?)?;
+    let mut names = NameList::new(alloc);
+    for item in items {
+        names.put(name_of(alloc, item.customer)?)?;
     }
-    Ok(names)
+    names.into_names()
 }

@@ -1,20 +1,21 @@
 use Rattle.std.proofs.Common.{sym, ◌∙◌}
-use Rattle.market_events.specs.Answers.{key_asked}
-use Rattle.market.proofs.Hands.{passes_over, events_few, version_small, takes_in}
+use Rattle.std.proofs.Math.Logic.{∥∥₁_elim}
+use Rattle.market.specs.Once.{kept_of}
+use Rattle.market.specs.Output.{most_kept}
+use Rattle.market.proofs.Hands.{passes_over, is_next, takes_in}
 use Rattle.market.proofs.hand.Hand.take.Goals as goal
 
 pub returns-then-not-can_keep : goal.returns-then-not-can_keep
 returns-then-not-can_keep c = λ given stands. passes_over c.args.self.now given c.args.request.now stands (sym c.can_keep.ensures ∙ c.if-not-can_keep.true)
 
-pub answer-requires-clause-step : goal.answer-requires-clause-step
-answer-requires-clause-step c = c.requires.stands.1.step
-
-pub answer-requires-clause-few : goal.answer-requires-clause-few
-answer-requires-clause-few c = events_few c.args.self.now c.requires.stands.0 c.args.request.now c.requires.stands.1 c.requires.stands.2
-
-pub answer-requires-clause-version : goal.answer-requires-clause-version
-answer-requires-clause-version c = version_small c.args.self.now c.requires.stands.0 c.args.request.now c.requires.stands.1 (key_asked c.args.request.now.ask) c.requires.stands.2
+pub ask-requires-clause-next : goal.ask-requires-clause-next
+ask-requires-clause-next c =
+    ∥∥₁_elim c.requires.stands squash₁
+    (λ it. ∣ (kept_of most_kept it.0, it.1.serves, is_next c.args.self.now it.0 c.args.request.now it.1 (sym c.can_keep.ensures ∙ c.if-not-can_keep.false)) ∣₁)
 
 pub returns : goal.returns
-returns c = λ given stands. takes_in c.args.self.now given c.args.request.now stands _ c.in_ok-reply.reply (sym c.can_keep.ensures ∙ c.if-not-can_keep.false)
-    c.in_ok-keep.ensures.ok c.in_ok-reply.ensures.reply c.in_ok-reply.ensures.step c.in_ok-reply.ensures.changes
+returns c = λ given stands.
+    let may = sym c.can_keep.ensures ∙ c.if-not-can_keep.false in
+    let next = is_next c.args.self.now given c.args.request.now stands may in
+    takes_in c.args.self.now given c.args.request.now stands _ c.in_ok-reply.reply may c.in_ok-keep.ensures.ok
+    (c.in_ok-reply.ensures.replied (kept_of most_kept given) stands.serves next) (c.in_ok-reply.ensures.on (kept_of most_kept given) stands.serves next)

@@ -1,0 +1,3 @@
+pub mod Tables
+pub mod BasketCells
+pub mod Trials

@@ -1,0 +1,16 @@
+use Rattle.std.proofs.Common.{arith}
+use Rattle.market_events.proofs.CellWords.{basket_word, read_text, read_ok, read_all, if_some}
+use Rattle.market_events.proofs.FormedLaws.{key_decides}
+use Rattle.market_events.proofs.cell_names.basket_read.Goals as goal
+
+pub returns-clause-is : goal.returns-clause-is
+returns-clause-is c = read_text basket_word c.args.text.now c.basket.result c.basket.ensures c.ok.result c.ok.ensures.value
+
+pub returns-clause-formed : goal.returns-clause-formed
+returns-clause-formed c =
+    if_some _ _ (λ line small. (key_decides line.1).1 small.1) c.ok.result
+    (read_ok basket_word c.args.text.now c.basket.result c.basket.ensures c.ok.result c.ok.ensures.value)
+
+pub returns-clause-all : goal.returns-clause-all
+returns-clause-all c = λ line small formed is.
+    read_all basket_word c.args.text.now c.basket.result c.basket.ensures c.ok.result c.ok.ensures.value line (omega arith, (key_decides line.1).0 formed) is

@@ -1,0 +1,16 @@
+use Rattle.market_events.proofs.CellWords.{key_of_word, read_text, read_ok, read_all, if_some}
+use Rattle.market_events.proofs.FormedLaws.{request_id_decides}
+use Rattle.market_events.proofs.WordForms.{id_word}
+use Rattle.market_events.proofs.cell_names.id_read.Goals as goal
+
+pub returns-clause-is : goal.returns-clause-is
+returns-clause-is c = read_text (key_of_word id_word) c.args.text.now c.id.result c.id.ensures c.ok.result c.ok.ensures.value
+
+pub returns-clause-formed : goal.returns-clause-formed
+returns-clause-formed c =
+    if_some _ _ (λ k small. (request_id_decides k).1 small) c.ok.result
+    (read_ok (key_of_word id_word) c.args.text.now c.id.result c.id.ensures c.ok.result c.ok.ensures.value)
+
+pub returns-clause-all : goal.returns-clause-all
+returns-clause-all c = λ k formed is.
+    read_all (key_of_word id_word) c.args.text.now c.id.result c.id.ensures c.ok.result c.ok.ensures.value k ((request_id_decides k).0 formed) is

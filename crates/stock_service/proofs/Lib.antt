@@ -1,0 +1,10 @@
+pub mod Tables
+pub mod Acts
+pub mod Steps
+pub mod Joining
+pub mod Formed
+pub mod Touched
+pub mod StockCells
+pub mod TableCells
+pub mod Covering
+pub mod Testing

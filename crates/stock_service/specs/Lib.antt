@@ -1,0 +1,5 @@
+pub mod Levels
+pub mod Kept
+pub mod Holding
+pub mod Cells
+pub mod Examples

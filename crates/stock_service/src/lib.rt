@@ -1,0 +1,15 @@
+//! Stock: how many pieces of each product are on hand, and how many of them the checkouts that wait for their payment
+//! have reserved. A checkout gets all its pieces or none.
+#![tactic(auto)]
+
+mod cells;
+mod level;
+mod levels;
+mod reserving;
+mod stocking;
+mod stocks;
+#[cfg(test)]
+mod tests;
+
+pub use level::Level;
+pub use stocks::Stocks;
