@@ -1,6 +1,7 @@
 //! Steps of the customers' service, and lists of what a step makes, succeed here, which no clause says.
 
-use crate::{Customers, drive};
+use crate::drive;
+use customer_service::Customers;
 use market_amounts::RequestId;
 use market_events::{Ask, Body, Link, Outs, PayRule, Reply, Request, Tabled};
 use std::test::Fail;

@@ -6,7 +6,7 @@ use Rattle.market_events.specs.declared.bodies.PayRule.TheVariants.{NoCard}
 use Rattle.market_events.specs.declared.links.Link.TheVariants.{Service}
 use Rattle.market_events.specs.Services.{Role, fits}
 use Rattle.market_events.specs.Standing.{Stands, with_step}
-use Rattle.service_probe.specs.Tallies.{IsCounted}
+use Rattle.customer_service.specs.Tallies.{IsCounted}
 use Rattle.service_probe.proofs.tests.a_failed_payment_is_counted.Goals as goal
 
 abbrev failed : Body

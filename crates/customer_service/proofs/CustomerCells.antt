@@ -1,0 +1,187 @@
+-- The cells of the customers' service, by what it keeps.
+use Rattle.std.proofs.Common.{◌≡◌, ℕ, ◌+◌, ◌≤◌, true, false, cond, not, ◌==◌, List, [], ◌∷◌, length, map, Option, Some, None, is_some, unwrap_or, refl, ap, sym, ◌∙◌, subst, arith, Result, Ok, Err, IfOk, ◌↔◌, ◌⊎◌, inl, inr}
+use Rattle.std.specs.List.{list_any, count_by, IsDistinct}
+use Rattle.std.specs.Map.{keys_of}
+use Rattle.std.proofs.lemmas.Bool.{or_parts, or_from, eqb-true, false_from_ne_true, both_ways}
+use Rattle.std.proofs.lemmas.Bool.Decides.{nat_tests}
+use Rattle.market_events.specs.declared.bodies.Body.{Body}
+use Rattle.market_events.specs.declared.bodies.Body.TheVariants as body
+use Rattle.market_events.specs.declared.bodies.Item.{Item}
+use Rattle.market_events.specs.declared.bodies.PayRule.{PayRule}
+use Rattle.market_events.specs.declared.bodies.PricedLine.{PricedLine}
+use Rattle.market_amounts.specs.declared.keys.RequestId.{RequestId}
+use Rattle.market_events.specs.declared.cells.CellName.{CellName}
+use Rattle.market_events.specs.declared.links.Link.{Link}
+use Rattle.market_events.specs.CellLists.{Within, put_all, cells_by}
+use Rattle.market_events.specs.Cells.{cells_of, cells_listed, customer_cells, customers_in}
+use Rattle.market_events.specs.Copies.{last_some}
+use Rattle.market_events.specs.Customers.{confirms_for, fails_for}
+use Rattle.market_events.specs.Orders.{items_in}
+use Rattle.market_events.specs.Services.{Role, IsRunOf, fits}
+use Rattle.market_events.specs.Standing.{Stands, CanTake, with_step, step_of, same_name, is_named, has_cell, value_of, most_touched}
+use Rattle.market_events.specs.Steps.{Step}
+use Rattle.market_events.specs.WellFormed.{IsId}
+use Rattle.market_events.proofs.CellLaws.{value_at, same_name-same}
+use Rattle.market_events.proofs.KeyedCells.{HasAll, IsFilled, at_name, at_none, alike, cells_by-map, each_among, named_list, last_filled, entries_told, value_told, none_told, covers_told}
+use Rattle.market_events.proofs.StandingLaws.{is_run_push, follows_step_of}
+use Rattle.customer_service.specs.declared.tallies.Tally.{Tally}
+use Rattle.customer_service.specs.Tallies.{tally_at, tally_by, IsCounted}
+use Rattle.customer_service.specs.Cells.{tally_text, name_by, text_by, texts_in, table_cells}
+use Rattle.customer_service.proofs.Counting.{tally_after, tally_by-push, items_within}
+use Rattle.customer_service.proofs.Tabling.{is_among, naming, some_text, text_filled, keys_all}
+use Rattle.customer_service.proofs.Taken.{customers_taken, is_nothing-by, taken_all, taken_within, nothing_in, nothing_of, of_customer}
+
+-- the texts of customers, by the steps
+abbrev pub texts_by : List Step → ℕ → Option (List ℕ)
+texts_by steps customer = text_by (tally_by steps customer)
+
+-- the cells of the service are those of the customers who were taken
+customer_cells-by : (steps : List Step) → customer_cells steps ≡ cells_by name_by (texts_by steps) (customers_taken steps)
+customer_cells-by steps =
+    cells_by-map name_by (texts_by steps) (λ c. tally_text (tally_by steps c)) (customers_taken steps)
+    (each_among naming (λ c. texts_by steps c ≡ Some (tally_text (tally_by steps c))) (customers_taken steps) (λ c among.
+    ap (λ b. cond b None (Some (tally_text (tally_by steps c)))) (is_nothing-by steps c ∙ ap not among)))
+
+within_by : (steps : List Step) → IsRunOf Role.Customer steps → Within IsId (texts_by steps)
+within_by steps run c some = taken_within Role.Customer steps run c (some_text (tally_by steps c) some)
+
+all_by : (steps : List Step) → HasAll (λ a b. a == b) (texts_by steps) (customers_taken steps)
+all_by steps c some = taken_all steps c (some_text (tally_by steps c) some)
+
+-- the cells of a table have at each name what those of the service have
+module _ (table : List (ℕ × Tally)) (steps : List Step) (stands : Stands Role.Customer IsCounted table steps) where
+  same_text : (c : ℕ) → texts_in table c ≡ texts_by steps c
+  same_text c = ap text_by (stands.held.each c)
+
+  table_within : Within IsId (texts_in table)
+  table_within c some = within_by steps stands.run c (ap is_some (sym (same_text c)) ∙ some)
+
+  table_same : (name : CellName) → last_some (value_at name) (table_cells table) ≡ last_some (value_at name) (customer_cells steps)
+  table_same name =
+      alike naming (texts_in table) (texts_by steps) table_within (within_by steps stands.run) (keys_of table) (customers_taken steps) (keys_all table) (all_by steps) name (λ c small is. same_text c)
+      ∙ sym (ap (last_some (value_at name)) (customer_cells-by steps))
+
+  pub table_told : cells_listed (table_cells table) ≡ cells_of Role.Customer steps
+  table_told = entries_told Role.Customer steps (put_all [] (table_cells table)) (table_cells table) refl table_same
+
+  -- the value at a name
+  module _ (name : CellName) (value : Option (List ℕ)) (found : Within IsId (texts_in table) → value ≡ last_some (value_at name) (table_cells table)) (text : List ℕ) (is : text ≡ unwrap_or value []) where
+    here : value ≡ last_some (value_at name) (customer_cells steps)
+    here = found table_within ∙ table_same name
+
+    pub value_here : text ≡ value_of (cells_of Role.Customer steps) name
+    value_here = value_told Role.Customer steps name value here text is
+
+    pub none_here : (text ≡ []) ↔ (has_cell (cells_of Role.Customer steps) name ≡ false)
+    none_here =
+        none_told Role.Customer steps name value
+        (subst IsFilled (sym (found table_within)) (last_filled name_by (texts_in table) (λ c. text_filled (tally_at table c)) (keys_of table) name)) here text is
+
+-- what is found at a name
+pub found_at : (table : List (ℕ × Tally)) (name : CellName) (customer : ℕ) → IsId customer → name ≡ name_by customer
+    → (value : Option (List ℕ)) → value ≡ texts_in table customer → Within IsId (texts_in table) → value ≡ last_some (value_at name) (table_cells table)
+found_at table name customer small is value e within = e ∙ sym (at_name naming (texts_in table) within (keys_of table) (keys_all table) name customer small is)
+
+pub found_none : (table : List (ℕ × Tally)) (name : CellName) → ((c : ℕ) → IsId c → name ≡ name_by c → ⊥)
+    → Within IsId (texts_in table) → None ≡ last_some (value_at name) (table_cells table)
+found_none table name other within = sym (at_none naming (texts_in table) within (keys_of table) name other)
+
+-- a customer who is not among those of a body is counted as before
+tally_after-other : (b : Body) (c : ℕ) (t : Tally) → is_among (customers_in b) c ≡ false → tally_after b c t ≡ t
+tally_after-other b c t other =
+    zero (cond (confirms_for c b) 1 0) (cond (fails_for c b) 1 0) (count_by (of_customer c) (items_in b)) (nothing_in b c ∙ ap not other)
+  where
+    zero : (x y z : ℕ) → nothing_of x y z ≡ true → (let u : Tally = record { confirmed = t.confirmed + x; failed = t.failed + y; delivered = t.delivered + z } in u ≡ t)
+    zero x y z none = grind (arith, nat_tests)
+
+-- a name that is not among these has the same value after the step
+pub covers : (steps : List Step) (from : Link) (b : Body) (names : List CellName) → IsRunOf Role.Customer steps → fits Role.Customer steps from b ≡ true
+    → ((c : ℕ) → is_named names (name_by c) ≡ false → is_among (customers_in b) c ≡ false)
+    → (name : CellName) → is_named names name ≡ false
+    → value_of (cells_of Role.Customer (with_step Role.Customer steps from b)) name ≡ value_of (cells_of Role.Customer steps) name
+covers steps from b names run fit named name other =
+    covers_told Role.Customer steps after name
+    (ap (last_some (value_at name)) (customer_cells-by after)
+    ∙ alike naming (texts_by after) (texts_by steps) (within_by after next) (within_by steps run) (customers_taken after) (customers_taken steps) (all_by after) (all_by steps) name (λ c small is.
+    ap text_by (tally_by-push steps (step_of Role.Customer steps from b) c
+    ∙ tally_after-other b c (tally_by steps c) (named c (sym (ap (is_named names) is) ∙ other))))
+    ∙ sym (ap (last_some (value_at name)) (customer_cells-by steps)))
+  where
+    after : List Step
+    after = with_step Role.Customer steps from b
+
+    next : IsRunOf Role.Customer after
+    next = is_run_push Role.Customer steps (step_of Role.Customer steps from b) run (follows_step_of Role.Customer steps from b fit)
+
+-- a customer whose name is not among those of items is not among their customers
+named_items : (items : List Item) (c : ℕ) → list_any (λ (i : Item). same_name (name_by c) (name_by i.customer)) items ≡ false
+    → is_among (map (λ (i : Item). i.customer) items) c ≡ false
+named_items [] c none = refl
+named_items (i ∷ more) c none =
+    let parts = or_parts (same_name (name_by c) (name_by i.customer)) (list_any (λ (i : Item). same_name (name_by c) (name_by i.customer)) more) none in
+    or_from (c == i.customer) (is_among (map (λ (i : Item). i.customer) more) c)
+    (false_from_ne_true (c == i.customer) (λ here. both_ways _ parts.0 (ap (λ n. same_name (name_by n) (name_by i.customer)) (eqb-true c i.customer here) ∙ same_name-same (name_by i.customer))))
+    (named_items more c parts.1)
+
+-- one name, and none
+pub one_differs : (name : CellName) → IsDistinct same_name (name ∷ [])
+unfolding IsDistinct
+one_differs name = (tt, tt)
+
+pub none_differ : IsDistinct same_name []
+unfolding IsDistinct
+none_differ = tt
+
+-- the customers of a payment, and of a body of another kind
+pub paying : (b : Body) (customer : ℕ)
+    → ((checkout : RequestId) × (lines : List PricedLine) × (total : ℕ) × (b ≡ body.Confirmed checkout customer lines total)) ⊎ ((checkout : RequestId) × (rule : PayRule) × (b ≡ body.Failed checkout customer rule))
+    → customers_in b ≡ customer ∷ []
+paying b customer (inl it) = ap customers_in it.3
+paying b customer (inr it) = ap customers_in it.2
+
+pub no_customers : (b : Body)
+    → ((checkout : RequestId) (customer : ℕ) (lines : List PricedLine) (total : ℕ) → b ≡ body.Confirmed checkout customer lines total → ⊥)
+    → ((checkout : RequestId) (customer : ℕ) (rule : PayRule) → b ≡ body.Failed checkout customer rule → ⊥)
+    → ((items : List Item) → b ≡ body.Delivered items → ⊥)
+    → customers_in b ≡ []
+no_customers (body.Confirmed checkout customer lines total) confirmed failed delivered = absurd (confirmed checkout customer lines total refl)
+no_customers (body.Failed checkout customer rule) confirmed failed delivered = absurd (failed checkout customer rule refl)
+no_customers (body.Delivered items) confirmed failed delivered = absurd (delivered items refl)
+no_customers (body.Asked request) confirmed failed delivered = refl
+no_customers (body.Changed key version change) confirmed failed delivered = refl
+no_customers (body.Reserve checkout customer lines) confirmed failed delivered = refl
+no_customers (body.ReserveFailed checkout key rule) confirmed failed delivered = refl
+no_customers (body.StockConfirmed checkout customer lines) confirmed failed delivered = refl
+no_customers (body.Invoice checkout customer lines total) confirmed failed delivered = refl
+no_customers (body.Ended checkout ending) confirmed failed delivered = refl
+no_customers (body.Shipped checkout) confirmed failed delivered = refl
+no_customers (body.Told id reply) confirmed failed delivered = refl
+
+-- what the names of a delivery are
+module _ {X Y : Type 0} (table : List (ℕ × Tally)) (from : Link) (b : Body) (items : List Item) (is : b ≡ body.Delivered items) (names : X → List CellName) where
+  pub delivered_covers : (r : Result X Y) → IfOk r (λ x. (name : CellName) → is_named (names x) name ≡ list_any (λ (i : Item). same_name name (name_by i.customer)) items)
+      → IfOk r (λ x. (steps : List Step) → Stands Role.Customer IsCounted table steps → fits Role.Customer steps from b ≡ true
+      → (name : CellName) → is_named (names x) name ≡ false
+      → value_of (cells_of Role.Customer (with_step Role.Customer steps from b)) name ≡ value_of (cells_of Role.Customer steps) name)
+  delivered_covers (Ok x) are = λ steps stands fit.
+      covers steps from b (names x) stands.run fit (λ c none. ap (λ cs. is_among cs c) (ap customers_in is) ∙ named_items items c (sym (are (name_by c)) ∙ none))
+  delivered_covers (Err e) are = tt
+
+  pub delivered_few : (r : Result X Y) (len : X → ℕ) → ((x : X) → len x ≡ length (names x)) → CanTake Role.Customer IsCounted table from b
+      → IfOk r (λ x. length (names x) ≤ length items) → IfOk r (λ x. len x ≤ most_touched b)
+  delivered_few (Ok x) len same can few = omega (arith, same x, few, items_within table from b can items is, ap most_touched is)
+  delivered_few (Err e) len same can few = tt
+
+pub one_covers : (table : List (ℕ × Tally)) (from : Link) (b : Body) (customer : ℕ) (names : List CellName) → customers_in b ≡ customer ∷ [] → names ≡ name_by customer ∷ []
+    → (steps : List Step) → Stands Role.Customer IsCounted table steps → fits Role.Customer steps from b ≡ true
+    → (name : CellName) → is_named names name ≡ false
+    → value_of (cells_of Role.Customer (with_step Role.Customer steps from b)) name ≡ value_of (cells_of Role.Customer steps) name
+one_covers table from b customer names is are steps stands fit =
+    covers steps from b names stands.run fit (λ c none. ap (λ cs. is_among cs c) is ∙ named_list naming (customer ∷ []) c (sym (ap (λ ns. is_named ns (name_by c)) are) ∙ none))
+
+pub none_covers : (table : List (ℕ × Tally)) (from : Link) (b : Body) (names : List CellName) → customers_in b ≡ []
+    → (steps : List Step) → Stands Role.Customer IsCounted table steps → fits Role.Customer steps from b ≡ true
+    → (name : CellName) → is_named names name ≡ false
+    → value_of (cells_of Role.Customer (with_step Role.Customer steps from b)) name ≡ value_of (cells_of Role.Customer steps) name
+none_covers table from b names is steps stands fit =
+    covers steps from b names stands.run fit (λ c none. ap (λ cs. is_among cs c) is)

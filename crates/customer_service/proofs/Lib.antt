@@ -1,0 +1,6 @@
+pub mod Tables
+pub mod Counting
+pub mod Tabling
+pub mod Taken
+pub mod CustomerCells
+pub mod Testing

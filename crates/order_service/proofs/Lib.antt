@@ -1,0 +1,6 @@
+pub mod Sums
+pub mod Deliveries
+pub mod Steps
+pub mod Joining
+pub mod OrderCells
+pub mod Testing

@@ -1,0 +1,15 @@
+//! Orders: how far each checkout is whose pieces stock reserved, what it costs, and how many of its lines were not
+//! delivered yet. Orders invoice a checkout, and tell the cart how it ended.
+#![tactic(auto)]
+
+mod answering;
+mod invoicing;
+mod names;
+mod order;
+mod orders;
+mod table;
+#[cfg(test)]
+mod tests;
+
+pub use order::Order;
+pub use orders::Orders;

@@ -1,0 +1,11 @@
+//! What is kept of an order.
+
+use market_events::OrderStatus;
+
+/// How far an order is, what it costs in cents, and how many of its lines were in no delivery.
+#[derive(Clone, Copy, Debug, PartialEq, Eq)]
+pub struct Order {
+    pub status: OrderStatus,
+    pub total: u64,
+    pub undelivered: usize,
+}

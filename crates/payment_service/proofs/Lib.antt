@@ -1,0 +1,4 @@
+pub mod Steps
+pub mod Tabling
+pub mod Told
+pub mod Testing
