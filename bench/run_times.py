@@ -3,10 +3,12 @@
 
     python3 bench/run_times.py [PROGRAM]
 
-For each size: records, seconds, seconds per 1,000 records, MB/s, peak memory, and which share of the time the same
-records take where the last one is bad, so that all of them are read by csv and their fields, and none is answered.
-The next line compares the time per record of the largest size with that of the smallest. The last lines set and remove
-lines in carts that hold 1, 8 and 32 of them."""
+Of 100 requests after the first ones, which create products, stock them and set cards, 40 set a line, 25 are checkouts, 10 prices,
+3 deletions, 3 creations, 10 deliveries and 9 dashboards. For each size: records, seconds, seconds per 1,000 records, MB/s, peak
+memory; which share of the time the same records take where the last one is bad, so that all of them are read by csv and their
+fields, and none is answered; and which share the dashboards take, by the time of the same records with each dashboard in the place
+of a request for a customer's counts. The next lines compare the time per record of the largest size with that of the smallest, with
+and without dashboards. The last lines set lines in carts that hold 1, 8 and 32 of them."""
 
 import os
 import random
@@ -20,32 +22,43 @@ SIZES = [16_384, 32_768, 65_536, 131_072, 262_144]
 ROUNDS = 3
 
 
-def workload(size):
+SELLERS = 64
+
+
+def workload(size, dashboards=True):
     """requests of 16 callers, as many of each lane as it keeps, of all kinds"""
     draw = random.Random(size)
+    products = max(2, size // 4096)
+    customers = max(16, size // 64)
+    first = [f'create,{seller},{product},{100 + draw.randrange(9900)},{draw.randrange(500)}'
+             for seller in range(SELLERS) for product in range(products)]
+    first += [f'stock,{seller},{product},1000000' for seller in range(SELLERS) for product in range(products)]
+    first += [f'card,{customer},1000000000000' for customer in range(customers)]
     numbers = [0] * 16
     lines = []
     for place in range(size):
-        caller = place % 16
-        product = f'{draw.randrange(64)},{draw.randrange(max(1, size // 1024))}'
-        customer = draw.randrange(max(1, size // 64))
+        product = f'{draw.randrange(SELLERS)},{draw.randrange(products)}'
+        customer = draw.randrange(customers)
         kind = draw.randrange(100)
-        if kind < 20:
-            rest = f'create,{product},{100 + draw.randrange(9900)},{draw.randrange(500)}'
-        elif kind < 30:
+        if place < len(first):
+            rest = first[place]
+        elif kind < 40:
+            rest = f'line,{customer},{product},{1 + draw.randrange(10)},{draw.randrange(500)}'
+        elif kind < 65:
+            rest = f'checkout,{customer}'
+        elif kind < 75:
             rest = f'price,{product},{100 + draw.randrange(9900)}'
-        elif kind < 33:
+        elif kind < 78:
             rest = f'delete,{product}'
-        elif kind < 43:
-            rest = f'view,{product}'
-        elif kind < 73:
-            rest = f'line,{customer},{product},{1 + draw.randrange(1000)},{draw.randrange(500)}'
-        elif kind < 80:
-            rest = f'remove,{customer},{product}'
-        elif kind < 92:
-            rest = f'stock,{product},{1 + draw.randrange(10000)}'
+        elif kind < 81:
+            rest = f'create,{product},{100 + draw.randrange(9900)},{draw.randrange(500)}'
+        elif kind < 91:
+            rest = 'deliver'
+        elif dashboards:
+            rest = f'dashboard,{draw.randrange(SELLERS)}'
         else:
-            rest = f'level,{product}'
+            rest = f'customer,{draw.randrange(SELLERS)}'
+        caller = place % 16
         lines.append(f'{caller},{numbers[caller]},{rest}\n')
         numbers[caller] += 1
     return ''.join(lines).encode()
@@ -83,15 +96,19 @@ def timed(program, text, status):
 def main():
     here = os.path.dirname(os.path.abspath(__file__))
     program = sys.argv[1] if len(sys.argv) > 1 else os.path.join(here, '..', 'crates', 'market', 'out', 'market')
-    print('records    seconds   s/1,000   MB/s    peak MB   reading')
+    print('records    seconds   s/1,000   MB/s    peak MB   reading   dashboards')
     each = []
+    without = []
     for size in SIZES:
         text = workload(size)
         took, peak = timed(program, text, 0)
         reading, _ = timed(program, text + b'0,0,paint\n', 3)
+        plain, _ = timed(program, workload(size, dashboards=False), 0)
         each.append(took / size)
-        print(f'{size:7}   {took:8.3f}  {1000 * took / size:8.5f}  {len(text) / took / 1e6:6.1f}  {peak:8.1f}   {100 * reading / took:5.1f} %')
-    print(f'time per record, largest to smallest: {each[-1] / each[0]:.2f}')
+        without.append(plain / size)
+        print(f'{size:7}   {took:8.3f}  {1000 * took / size:8.5f}  {len(text) / took / 1e6:6.1f}  {peak:8.1f}   {100 * reading / took:5.1f} %'
+              f'   {100 * (took - plain) / took:5.1f} %')
+    print(f'time per record, largest to smallest: {each[-1] / each[0]:.2f}, without dashboards {without[-1] / without[0]:.2f}')
     for held in [1, 8, 32]:
         text = carts(SIZES[2], held)
         took, _ = timed(program, text, 0)

@@ -1,5 +1,5 @@
 -- Requests answered one after the other: one more at the end, and what is found of them.
-use Rattle.std.proofs.Common.{◌≡◌, ℕ, ◌+◌, ◌*◌, ◌%◌, ◌<◌, ◌≤◌, Bool, true, false, cond, ◌||◌, nat_lt, zero, List, [], ◌∷◌, ◌++◌, length, Option, Some, None, is_some, fold, ◌==◌, suc, refl, ap, ◌∙◌, sym, arith, zero-mul, suc-mul}
+use Rattle.std.proofs.Common.{◌≡◌, ℕ, ◌+◌, ◌*◌, ◌%◌, ◌<◌, ◌≤◌, Bool, true, false, cond, ◌||◌, nat_lt, zero, List, [], ◌∷◌, ◌++◌, length, Option, Some, is_some, fold, ◌==◌, suc, refl, ap, ◌∙◌, sym, arith, zero-mul, suc-mul}
 use Rattle.std.specs.List.{count_by}
 use Rattle.std.proofs.lemmas.Bool.Decides.{nat_tests}
 use Rattle.std.proofs.lemmas.List.Sums.{sum_by-cons}
@@ -9,7 +9,8 @@ use Rattle.market.specs.declared.lanes.Kept.{Kept}
 use Rattle.market.specs.Lanes.{kept_at, count_in_lane}
 use Rattle.market.specs.Once.{has_id_of, count_in_lane_of, kept_of}
 use Rattle.market.specs.Output.{most_kept}
-use Rattle.market.specs.Sequential.{Acts, sequential_reply, sequential_step, replies_after, acts_after}
+use Rattle.market.specs.Acts.{Acts}
+use Rattle.market.specs.Sequential.{sequential_reply, sequential_step, replies_after, acts_after}
 use Rattle.market.proofs.Kept.{kept_count}
 
 -- the replies and the acts with one request more

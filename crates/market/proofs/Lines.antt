@@ -1,5 +1,5 @@
 -- The answer to a request stays what it was when it was given.
-use Rattle.std.proofs.Common.{◌≡◌, ℕ, ◌+◌, ◌<◌, ◌≤◌, Bool, true, false, not, cond, ◌||◌, nat_lt, ◌⊎◌, inl, inr, ⊎_elim, List, [], ◌∷◌, ◌++◌, Option, Some, None, is_some, find, length, take, get_or, refl, ap, ap₂, ◌∙◌, sym, subst, arith}
+use Rattle.std.proofs.Common.{◌≡◌, ℕ, ◌+◌, ◌<◌, ◌≤◌, Bool, true, false, not, cond, ◌||◌, nat_lt, ◌⊎◌, inl, inr, ⊎_elim, List, [], ◌∷◌, ◌++◌, Option, Some, None, is_some, find, length, take, get_or, refl, ap, ap₂, ◌∙◌, sym, subst}
 use Rattle.std.specs.List.{flat_map}
 use Rattle.std.specs.Option.{option_or}
 use Rattle.std.proofs.lemmas.Bool.{false≢true}
@@ -14,8 +14,9 @@ use Rattle.market.specs.declared.lanes.Kept.{Kept}
 use Rattle.market.specs.Hand.{Stands, kept_replies}
 use Rattle.market.specs.Lanes.{kept_at}
 use Rattle.market.specs.Once.{has_id_of, count_in_lane_of, kept_of, answer_of, answer_for}
-use Rattle.market.specs.Output.{most_kept, answer_line, id_text, count_lines, run_output}
-use Rattle.market.specs.Sequential.{no_acts, acts_after, sequential_reply, sequential_replies}
+use Rattle.market.specs.Output.{most_kept, answer_line, id_text, count_lines, whole_in, undone_in, run_output}
+use Rattle.market.specs.Acts.{no_acts}
+use Rattle.market.specs.Sequential.{acts_after, sequential_reply, sequential_replies}
 use Rattle.market.proofs.Kept.{kept_of-push, decided, count_in_lane_of-same, same_id-itself}
 use Rattle.market.proofs.Answering.{replies_after-push, is_some-kept_at}
 
@@ -109,10 +110,11 @@ next_line after requests i r text written reply within here so_far answered stan
     )
 
 -- all lines, and those that count
-pub all_lines : (hand : Hand) (requests : List Request) (i : ℕ) (text written : List ℕ) (kept : ℕ) → length requests ≤ i
+pub all_lines : (hand : Hand) (requests : List Request) (i : ℕ) (text written : List ℕ) (kept whole undone : ℕ) → length requests ≤ i
     → Stands hand (take i requests) → text ≡ flat_map (answer_line (kept_replies (take i requests))) (take i requests)
-    → ((given : List Request) → Stands hand given → kept ≡ length (kept_replies given)) → written ≡ text ++ count_lines kept → written ≡ run_output requests
-all_lines hand requests i text written kept past stands so_far counted wrote =
+    → ((given : List Request) → Stands hand given → kept ≡ length (kept_replies given)) → ((given : List Request) → Stands hand given → whole ≡ whole_in (kept_replies given))
+    → ((given : List Request) → Stands hand given → undone ≡ undone_in (kept_replies given)) → written ≡ text ++ count_lines kept whole undone → written ≡ run_output requests
+all_lines hand requests i text written kept whole undone past stands so_far counted whole_counted undone_counted wrote =
     let all : take i requests ≡ requests = take_all i requests past in
-    wrote ∙ ap₂ (λ before n. before ++ count_lines n) so_far (counted (take i requests) stands)
-    ∙ ap (λ given. flat_map (answer_line (kept_replies given)) given ++ count_lines (length (kept_replies given))) all
+    wrote ∙ (λ j. so_far j ++ count_lines (counted (take i requests) stands j) (whole_counted (take i requests) stands j) (undone_counted (take i requests) stands j))
+    ∙ ap (λ given. flat_map (answer_line (kept_replies given)) given ++ count_lines (length (kept_replies given)) (whole_in (kept_replies given)) (undone_in (kept_replies given))) all

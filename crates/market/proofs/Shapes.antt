@@ -1,7 +1,6 @@
 -- What a request is answered: a reply alone, or a change to stock and to the cart before it.
-use Rattle.std.proofs.Common.{◌≡◌, ℕ, ◌+◌, Bool, true, false, ◌==◌, ◌&&◌, not, nat_le, nat_lt, cond, ◌⊎◌, inl, inr, List, [], ◌∷◌, ◌++◌, length, refl, ap, sym, ◌∙◌, arith}
+use Rattle.std.proofs.Common.{◌≡◌, ℕ, ◌+◌, Bool, true, false, ◌==◌, ◌&&◌, not, nat_le, nat_lt, cond, ◌⊎◌, inl, inr, List, [], ◌∷◌, Option, Some, None, length, refl, ap, ◌∙◌, arith}
 use Rattle.std.proofs.lemmas.Bool.{and_from}
-use Rattle.std.proofs.lemmas.List.{append-nil}
 use Rattle.std.proofs.lemmas.Bool.Decides.{nat_tests}
 use Rattle.market_amounts.specs.declared.keys.ProductKey.{ProductKey}
 use Rattle.market_amounts.specs.declared.keys.RequestId.{RequestId}
@@ -9,22 +8,20 @@ use Rattle.market_events.specs.declared.changes.Change.{Change}
 use Rattle.market_events.specs.declared.changes.Change.TheVariants as change
 use Rattle.market_events.specs.declared.changes.Look.{Look}
 use Rattle.market_events.specs.declared.changes.Look.TheVariants.{Unknown, Gone, Live}
+use Rattle.market_events.specs.declared.replies.OrderStatus.{OrderStatus}
 use Rattle.market_events.specs.declared.replies.Reply.{Reply}
 use Rattle.market_events.specs.declared.replies.Reply.TheVariants as reply
-use Rattle.market_events.specs.declared.requests.Ask.{Ask}
-use Rattle.market_events.specs.declared.requests.Ask.TheVariants as ask
-use Rattle.market_events.specs.declared.requests.Request.{Request}
-use Rattle.market_events.specs.Answers.{is_run}
 use Rattle.market_events.specs.Carts.{Held, has_key, view_rows, line_rows, remove_rows}
 use Rattle.market_events.specs.Copies.{copy_of, version_of}
-use Rattle.market_events.specs.Links.{product_node, cart_node, stock_node}
+use Rattle.market_events.specs.Links.{product_node, cart_node, stock_node, order_node}
 use Rattle.market_events.specs.Looks.{is_live, look_version}
+use Rattle.market_events.specs.Orders.{order_reply_rows}
 use Rattle.market_events.specs.Products.{changed, create_rows, price_rows, delete_rows}
 use Rattle.market_events.specs.Services.{change_fits, change_is_due}
 use Rattle.market_events.specs.Steps.{Sending, told}
 use Rattle.market_events.specs.Stocks.{stock_rows, level_rows}
 use Rattle.market_events.specs.WellFormed.{most_lines, pieces_max}
-use Rattle.market.specs.Sequential.{Acts, basket_by, pieces_stocked, rows_for}
+use Rattle.market.specs.Acts.{Acts}
 
 -- a service tells one reply
 pub record TellsReply (id : RequestId) (rows : List Sending) : Type 0 where
@@ -110,6 +107,6 @@ level_shape id Unknown here held = record { service = stock_node; reply = _; row
 level_shape id (Gone v) here held = record { service = stock_node; reply = _; rows_are = refl }
 level_shape id (Live v p f) here held = record { service = stock_node; reply = _; rows_are = refl }
 
--- rows behind those of services that answer nothing
-pub only_rows : (acts : Acts) (id : RequestId) (rows : List Sending) → TellsReply id rows ⊎ TellsChange acts id rows → TellsReply id (rows ++ []) ⊎ TellsChange acts id (rows ++ [])
-only_rows acts id rows shape = rw append-nil shape
+pub order_shape : (id : RequestId) (status : Option OrderStatus) (total : ℕ) → TellsReply id (order_reply_rows id status total)
+order_shape id None total = record { service = order_node; reply = _; rows_are = refl }
+order_shape id (Some status) total = record { service = order_node; reply = _; rows_are = refl }

@@ -1,5 +1,8 @@
 pub mod Once
+pub mod Acts
 pub mod Sequential
+pub mod Carrying
+pub mod Agreeing
 pub mod Input
 pub mod Output
 pub mod Records
@@ -9,4 +12,5 @@ pub mod Hand
 pub mod Words
 pub mod Statuses
 pub mod Runs
+pub mod Places
 pub mod Services

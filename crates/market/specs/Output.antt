@@ -1,9 +1,11 @@
 -- The output of a run, and what a call adds to a sink.
-use Rattle.std.specs.Prelude.{◌≡◌, ℕ, ◌<◌, List, ◌∷◌, ◌++◌, Option, take, length, option_map, codes, []}
+use Rattle.std.specs.Prelude.{◌≡◌, ℕ, ◌<◌, Bool, true, false, List, ◌∷◌, ◌++◌, Option, take, length, option_map, codes, []}
 use Rattle.std.specs.Fmt.{decimal}
-use Rattle.std.specs.List.{flat_map}
+use Rattle.std.specs.List.{count_by, flat_map}
 use Rattle.market_amounts.specs.declared.keys.RequestId.{RequestId}
 use Rattle.market_events.specs.declared.requests.Request.{Request}
+use Rattle.market_events.specs.declared.replies.Reply.{Reply}
+use Rattle.market_events.specs.declared.replies.Reply.TheVariants as reply
 use Rattle.market_events.specs.Texts.{text_of_reply}
 use Rattle.market.specs.declared.lanes.Kept.{Kept}
 use Rattle.market.specs.Once.{kept_of, answer_for}
@@ -17,14 +19,30 @@ id_text id = decimal id.caller ++ 46 ∷ (decimal id.number ++ 32 ∷ [])
 abbrev pub answer_line : List Kept → Request → List ℕ
 answer_line kept r = id_text r.id ++ (text_of_reply (answer_for kept r) ++ 10 ∷ [])
 
--- the four lines that count the kept requests, the replies `whole` and `undone`, of which no kind that is built gives
--- one, and the events that are outstanding
-abbrev pub count_lines : ℕ → List ℕ
-count_lines requests = codes "requests " ++ (decimal requests ++ codes "\nwhole 0\nundone 0\noutstanding 0\n")
+-- a reply that says that a checkout is whole, and one that says that it is undone
+abbrev pub says_whole : Reply → Bool
+says_whole (reply.Whole total) = true
+says_whole other = false
+
+abbrev pub says_undone : Reply → Bool
+says_undone (reply.Undone rule) = true
+says_undone other = false
+
+-- how many of the kept requests were answered so
+abbrev pub whole_in : List Kept → ℕ
+whole_in kept = count_by (λ (k : Kept). says_whole k.reply) kept
+
+abbrev pub undone_in : List Kept → ℕ
+undone_in kept = count_by (λ (k : Kept). says_undone k.reply) kept
+
+-- the four lines that count the kept requests, the replies `whole` and `undone`, and the events that are outstanding
+abbrev pub count_lines : ℕ → ℕ → ℕ → List ℕ
+count_lines requests whole undone =
+    codes "requests " ++ (decimal requests ++ (codes "\nwhole " ++ (decimal whole ++ (codes "\nundone " ++ (decimal undone ++ codes "\noutstanding 0\n")))))
 
 -- an answer line for each given request, in order, and the four lines that count
 abbrev pub output_of : List Kept → List Request → List ℕ
-output_of kept given = flat_map (answer_line kept) given ++ count_lines (length kept)
+output_of kept given = flat_map (answer_line kept) given ++ count_lines (length kept) (whole_in kept) (undone_in kept)
 
 -- how many requests a lane keeps
 abbrev pub most_kept : ℕ

@@ -2,7 +2,6 @@
 
 ghost use Rattle.std.specs.Prelude.{◌≡◌, [], ◌∷◌, ◌++◌, IfOk, OnOk};
 ghost use Rattle.std.specs.List.{All};
-ghost use Rattle.market_events.specs.Answers.{IsRun};
 ghost use Rattle.market_events.specs.Texts.{text_of_reply};
 ghost use Rattle.market_events.specs.WellFormed.{IsRequest, IsReply};
 ghost use Rattle.market.specs.Output.{run_output, count_lines, id_text};
@@ -14,7 +13,6 @@ use std::alloc::{AllocError, Global};
 
 /// What a run of these requests writes.
 pub fn run_text(alloc: Global, requests: &[Request]) -> Result<Vec<u8>, AllocError>
-    requires run { All IsRun requests.now }
     requires formed { All IsRequest requests.now }
     ensures { IfOk result (λ text. text.items ≡ run_output requests.now) }
 {
@@ -24,7 +22,7 @@ pub fn run_text(alloc: Global, requests: &[Request]) -> Result<Vec<u8>, AllocErr
         let reply = hand.answer(request)?;
         append_answer(alloc, request.id, &reply, &mut text)?;
     }
-    append_counts(alloc, hand.len(), &mut text)?;
+    append_counts(alloc, hand.len(), hand.whole(), hand.undone(), &mut text)?;
     Ok(text)
 }
 
@@ -46,9 +44,17 @@ fn append_answer(
     Ok(())
 }
 
-fn append_counts(alloc: Global, requests: usize, text: &mut Vec<u8>) -> Result<(), AllocError>
-    ensures { OnOk result (text.new.items ≡ text.old.items ++ count_lines requests) }
+fn append_counts(
+    alloc: Global,
+    requests: usize,
+    whole: usize,
+    undone: usize,
+    text: &mut Vec<u8>,
+) -> Result<(), AllocError>
+    ensures { OnOk result (text.new.items ≡ text.old.items ++ count_lines requests whole undone) }
 {
-    let counts = format!(in alloc; "requests {requests}\nwhole 0\nundone 0\noutstanding 0\n")?;
+    let counts = format!(in alloc;
+        "requests {requests}\nwhole {whole}\nundone {undone}\noutstanding 0\n"
+    )?;
     text.extend_from_slice(counts.as_bytes())
 }

@@ -2,11 +2,11 @@
 
 ghost use Rattle.std.specs.Prelude.{◌≡◌, List, [], ◌∷◌, ◌++◌, not, is_some, ◌&&◌, nat_lt, length, IfOk, OnOk};
 ghost use Rattle.market_events.specs.declared.requests.Request.{Request};
-ghost use Rattle.market_events.specs.Answers.{IsRun};
 ghost use Rattle.market_events.specs.WellFormed.{IsRequest, IsReply};
 ghost use Rattle.market.specs.Hand.{Stands, kept_replies};
 ghost use Rattle.market.specs.Lanes.{kept_at, count_in_lane};
 ghost use Rattle.market.specs.Once.{answer_for};
+ghost use Rattle.market.specs.Output.{whole_in, undone_in};
 
 use crate::lanes::{Kept, Lanes, MOST_KEPT};
 use crate::services::Services;
@@ -39,12 +39,25 @@ impl Hand {
         self.lanes.len()
     }
 
-    /// Answers a request, which requires one that is well formed and of a kind that is built. One with a new id whose lane
+    /// How many of the kept requests were answered `whole`.
+    pub fn whole(&self) -> usize
+        ensures { (given : List Request) → Stands self.now given → result ≡ whole_in (kept_replies given) }
+    {
+        self.lanes.whole()
+    }
+
+    /// How many of the kept requests were answered `undone`.
+    pub fn undone(&self) -> usize
+        ensures { (given : List Request) → Stands self.now given → result ≡ undone_in (kept_replies given) }
+    {
+        self.lanes.undone()
+    }
+
+    /// Answers a request, which requires one that is well formed. One with a new id whose lane
     /// has room is kept, and its service answers it. The answer to any other is `request_differs` where the id is kept
     /// with other content, the kept reply where it is kept with this one, and `lane_full` where it is not kept. After want
     /// of memory this is given up.
     pub fn answer(&mut self, request: &Request) -> Result<Reply, AllocError>
-        requires run { IsRun request.now }
         requires formed { IsRequest request.now }
         requires stands { ∥ ((given : List Request) × Stands self.old given) ∥₁ }
         ensures answered { IfOk result (λ reply. (given : List Request) → Stands self.old given
@@ -58,7 +71,6 @@ impl Hand {
 
     // Takes a request in: it is kept and answered, unless its id is kept or its lane has no room.
     fn take(&mut self, request: &Request) -> Result<(), AllocError>
-        requires run { IsRun request.now }
         requires formed { IsRequest request.now }
         requires stands { ∥ ((given : List Request) × Stands self.old given) ∥₁ }
         ensures { OnOk result ((given : List Request) → Stands self.old given → Stands self.new (given ++ request.now ∷ [])) }

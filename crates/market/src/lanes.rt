@@ -4,6 +4,7 @@ ghost use Rattle.std.specs.Prelude.{◌≡◌, ◌<◌, [], ◌∷◌, ◌++◌,
 ghost use Rattle.std.specs.Option.{option_copied};
 ghost use Rattle.market_events.specs.Requests.{lane_of};
 ghost use Rattle.market.specs.Lanes.{kept_at, count_in_lane, IsFormed};
+ghost use Rattle.market.specs.Output.{whole_in, undone_in};
 
 use market_amounts::RequestId;
 use market_events::{Reply, Request};
@@ -62,6 +63,26 @@ impl Lanes {
         ensures { result ≡ length self.now }
     {
         self.kept.len()
+    }
+
+    /// How many of the kept requests were answered `whole`.
+    pub fn whole(&self) -> usize
+        ensures { result ≡ whole_in self.now }
+    {
+        self.kept
+            .iter()
+            .filter(|kept| matches!(kept.reply, Reply::Whole(_)))
+            .count()
+    }
+
+    /// How many of the kept requests were answered `undone`.
+    pub fn undone(&self) -> usize
+        ensures { result ≡ undone_in self.now }
+    {
+        self.kept
+            .iter()
+            .filter(|kept| matches!(kept.reply, Reply::Undone(_)))
+            .count()
     }
 
     /// The kept request with this id, if there is one.

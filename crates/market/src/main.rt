@@ -3,6 +3,8 @@
 #![tactic(auto)]
 
 mod answers;
+#[cfg(test)]
+mod checkout_tests;
 pub mod hand;
 mod input;
 mod lanes;

@@ -1,32 +1,73 @@
-//! The services that requests go to: the products, the carts and stock.
+//! The eight services, and what one request makes, carried through them.
 
-ghost use Rattle.std.specs.Prelude.{◌≡◌, [], ◌∷◌, ◌++◌, true, List, IfOk, OnOk};
+ghost use Rattle.std.specs.Prelude.{◌≡◌, [], ◌∷◌, ◌++◌, true, List, IfOk, OnOk, OnErr, map};
+ghost use Rattle.market_events.specs.declared.bodies.Body.{Body};
 ghost use Rattle.market_events.specs.declared.links.Link.{Link};
 ghost use Rattle.market_events.specs.declared.requests.Request.{Request};
-ghost use Rattle.market_events.specs.Answers.{IsRun};
 ghost use Rattle.market_events.specs.Copies.{last_some};
+ghost use Rattle.market_events.specs.Services.{answers, fits};
 ghost use Rattle.market_events.specs.WellFormed.{IsRequest, IsReply};
-ghost use Rattle.market.specs.Sequential.{no_acts, acts_after, sequential_reply, reply_told};
-ghost use Rattle.market.specs.Services.{Taken, StandFor, Serves, IsNext, CanPass, CanPassAll, passed, all_passed, request_fits, request_answers, with_request};
+ghost use Rattle.market.specs.Acts.{no_acts};
+ghost use Rattle.market.specs.Carrying.{Taken, steps_of, role_at, with_taken, CanPass, made_of, passed, IsTrace, all_passed, request_fits, request_answers, with_request};
+ghost use Rattle.market.specs.Sequential.{acts_after, sequential_reply, reply_told};
+ghost use Rattle.market.specs.Places.{role_of};
+ghost use Rattle.market.specs.Services.{StandFor, Serves, IsNext};
 
 use cart_service::Carts;
-use market_events::{Ask, Body, Link, Outs, Reply, Request, Service, service_of};
+use customer_service::Customers;
+use market_events::{Body, Link, Node, Outs, Reply, Request, Service, receiver_of, service_of};
+use order_service::Orders;
+use payment_service::Payments;
 use product_service::Products;
+use seller_service::Sellers;
+use shipment_service::Shipments;
 use std::alloc::{AllocError, Global};
+use std::collections::VecDeque;
 use stock_service::Stocks;
-
-// The service link to the cart; the other one that leads here goes to stock.
-const TO_CART: u8 = 0;
 
 const LANES: u32 = 16;
 
-/// The three services, each with its own tables.
+// The services by name.
+#[derive(Clone, Copy)]
+enum Place {
+    Cart,
+    Product,
+    Stock,
+    Order,
+    Payment,
+    Shipment,
+    Customer,
+    Seller,
+}
+
+// The service with this number; above the last one there is none.
+fn place_of(service: Node) -> Place
+    ensures { role_of result ≡ role_at service }
+{
+    match service.get() {
+        0 => Place::Cart,
+        1 => Place::Product,
+        2 => Place::Stock,
+        3 => Place::Order,
+        4 => Place::Payment,
+        5 => Place::Shipment,
+        6 => Place::Customer,
+        _ => Place::Seller,
+    }
+}
+
+/// The eight services, each with its own tables.
 #[derive(Drop)]
 pub struct Services {
     alloc: Global,
-    products: Products,
     carts: Carts,
+    products: Products,
     stocks: Stocks,
+    orders: Orders,
+    payments: Payments,
+    shipments: Shipments,
+    customers: Customers,
+    sellers: Sellers,
 }
 
 impl Services {
@@ -36,16 +77,20 @@ impl Services {
     {
         Services {
             alloc,
-            products: Products::new(alloc),
             carts: Carts::new(alloc),
+            products: Products::new(alloc),
             stocks: Stocks::new(alloc),
+            orders: Orders::new(alloc),
+            payments: Payments::new(alloc),
+            shipments: Shipments::new(alloc),
+            customers: Customers::new(alloc),
+            sellers: Sellers::new(alloc),
         }
     }
 
-    /// Gives a request with a new id to its service, passes on what that makes until none is left, and gives the reply.
-    /// It requires a well-formed request of a kind that is built. After want of memory this is given up.
+    /// Gives a request with a new id to its service, carries what that makes through the services until none is left, and
+    /// gives the reply. It requires a well-formed request. After want of memory this is given up.
     pub fn ask(&mut self, request: &Request) -> Result<Reply, AllocError>
-        requires run { IsRun request.now }
         requires formed { IsRequest request.now }
         requires next { ∥ ((requests : List Request) × Serves self.old requests × IsNext requests request.now) ∥₁ }
         ensures replied { IfOk result (λ reply. (requests : List Request) → Serves self.old requests → IsNext requests request.now
@@ -55,7 +100,7 @@ impl Services {
             → Serves self.new (requests ++ request.now ∷ [])) }
     {
         let made = self.give(request)?;
-        match self.pass_on(made)? {
+        match self.carry(made)? {
             Some(reply) => Ok(reply),
             None => unreachable!(),
         }
@@ -63,8 +108,7 @@ impl Services {
 
     // Gives a request to its service, and gives what that makes.
     fn give(&mut self, request: &Request) -> Result<Outs, AllocError>
-        requires run { IsRun request.now }
-        requires fits { ∥ ((taken : Taken) × StandFor self.old taken × (request_fits taken request.now ≡ true)) ∥₁ }
+        requires { ∥ ((taken : Taken) × StandFor self.old taken × (request_fits taken request.now ≡ true)) ∥₁ }
         ensures made { IfOk result (λ made. (taken : Taken) → StandFor self.old taken → request_fits taken request.now ≡ true
             → made ≡ request_answers taken request.now) }
         ensures on { OnOk result ((taken : Taken) → StandFor self.old taken → request_fits taken request.now ≡ true
@@ -72,49 +116,78 @@ impl Services {
     {
         let Request { id, ask } = *request;
         let lane = (id.caller % LANES) as u8;
-        let service = service_of(&ask).get() as u8;
-        let from = Link::Asked(lane, service);
+        let service = service_of(&ask);
+        let from = Link::Asked(lane, service.get() as u8);
         let body = Body::Asked(Request { id, ask });
-        let mut made = Outs::new(self.alloc);
-        match ask {
-            Ask::Create(..) | Ask::Price(..) | Ask::Delete(_) => {
-                self.products.accept(from, &body, &mut made)?;
-            }
-            Ask::View(_) | Ask::Line(..) | Ask::Remove(..) => {
-                self.carts.accept(from, &body, &mut made)?;
-            }
-            Ask::Stock(..) | Ask::Level(_) => self.stocks.accept(from, &body, &mut made)?,
-            _ => unreachable!(),
-        }
-        Ok(made)
+        self.accept(service, from, &body)
     }
 
-    // Passes on what was made, one after the other, and gives the reply that is told.
-    fn pass_on(&mut self, mut made: Outs) -> Result<Option<Reply>, AllocError>
-        requires { ∥ ((taken : Taken) × StandFor self.old taken × CanPassAll taken made) ∥₁ }
-        ensures told { IfOk result (λ reply. reply ≡ last_some reply_told made) }
-        ensures on { OnOk result ((taken : Taken) → StandFor self.old taken → CanPassAll taken made → StandFor self.new (all_passed taken made)) }
+    // Carries bodies, and what the services make of them, until none is left, and gives the reply that is told last.
+    fn carry(&mut self, made: Outs) -> Result<Option<Reply>, AllocError>
+        requires { ∥ ((taken : Taken) × StandFor self.old taken × ((trace : List (Link × Body)) × IsTrace taken made trace)) ∥₁ }
+        ensures told { IfOk result (λ reply. (taken : Taken) (trace : List (Link × Body)) → StandFor self.old taken → IsTrace taken made trace
+            → reply ≡ last_some reply_told trace) }
+        ensures on { OnOk result ((taken : Taken) (trace : List (Link × Body)) → StandFor self.old taken → IsTrace taken made trace
+            → StandFor self.new (all_passed taken trace)) }
     {
+        let mut waiting = VecDeque::new(self.alloc);
+        append(&mut waiting, made)?;
         let mut reply = None;
-        while let Some((link, body, _copy)) = made.first() {
-            self.pass(link, &body)?;
+        while let Some((link, body)) = waiting.pop_front() {
+            let made = self.pass(link, &body)?;
+            append(&mut waiting, made)?;
             reply = told(body).or(reply);
         }
         Ok(reply)
     }
 
-    // Passes on one body: a change to the cart or to stock, which make nothing of it; a reply is for no service.
-    fn pass(&mut self, link: Link, body: &Body) -> Result<(), AllocError>
+    // Passes one body to the service at the end of its link, and gives what that makes; a reply is for no service.
+    fn pass(&mut self, link: Link, body: &Body) -> Result<Outs, AllocError>
         requires { ∥ ((taken : Taken) × StandFor self.old taken × CanPass taken (link, body.now)) ∥₁ }
-        ensures { OnOk result ((taken : Taken) → StandFor self.old taken → CanPass taken (link, body.now) → StandFor self.new (passed taken (link, body.now))) }
+        ensures made { IfOk result (λ made. (taken : Taken) → StandFor self.old taken → CanPass taken (link, body.now)
+            → made ≡ made_of taken (link, body.now)) }
+        ensures on { OnOk result ((taken : Taken) → StandFor self.old taken → CanPass taken (link, body.now)
+            → StandFor self.new (passed taken (link, body.now))) }
     {
-        let mut made = Outs::new(self.alloc);
         match link {
-            Link::Service(TO_CART) => self.carts.accept(link, body, &mut made),
-            Link::Service(_) => self.stocks.accept(link, body, &mut made),
-            Link::Asked(..) | Link::Told(..) => Ok(()),
+            Link::Service(_) => self.accept(receiver_of(link), link, body),
+            Link::Asked(..) | Link::Told(..) => Ok(Outs::new(self.alloc)),
         }
     }
+
+    // Gives a body that came on this link to a service, and gives what that makes.
+    fn accept(&mut self, service: Node, from: Link, body: &Body) -> Result<Outs, AllocError>
+        requires { ∥ ((taken : Taken) × StandFor self.old taken × (fits (role_at service) (steps_of taken (role_at service)) from body.now ≡ true)) ∥₁ }
+        ensures made { IfOk result (λ made. (taken : Taken) → StandFor self.old taken
+            → fits (role_at service) (steps_of taken (role_at service)) from body.now ≡ true
+            → made ≡ answers (role_at service) (steps_of taken (role_at service)) from body.now) }
+        ensures on { OnOk result ((taken : Taken) → StandFor self.old taken
+            → fits (role_at service) (steps_of taken (role_at service)) from body.now ≡ true
+            → StandFor self.new (with_taken taken (role_at service) from body.now)) }
+    {
+        let mut made = Outs::new(self.alloc);
+        match place_of(service) {
+            Place::Cart => self.carts.accept(from, body, &mut made)?,
+            Place::Product => self.products.accept(from, body, &mut made)?,
+            Place::Stock => self.stocks.accept(from, body, &mut made)?,
+            Place::Order => self.orders.accept(from, body, &mut made)?,
+            Place::Payment => self.payments.accept(from, body, &mut made)?,
+            Place::Shipment => self.shipments.accept(from, body, &mut made)?,
+            Place::Customer => self.customers.accept(from, body, &mut made)?,
+            Place::Seller => self.sellers.accept(from, body, &mut made)?,
+        }
+        Ok(made)
+    }
+}
+
+// Puts what was made behind what waits.
+fn append(waiting: &mut VecDeque<(Link, Body)>, mut made: Outs) -> Result<(), AllocError>
+    ensures { OnOk result (waiting.new.items ≡ waiting.old.items ++ made) }
+{
+    while let Some((link, body, _copy)) = made.first() {
+        waiting.push_back((link, body))?;
+    }
+    Ok(())
 }
 
 // The reply that a body tells.

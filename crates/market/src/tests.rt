@@ -13,9 +13,9 @@ const FIRST_OUTPUT: &[u8] =
 
 // What a run leaves: its status and what the sink holds.
 #[derive(Drop)]
-struct Ran {
-    status: Status,
-    written: Vec<u8>,
+pub struct Ran {
+    pub status: Status,
+    pub written: Vec<u8>,
 }
 
 fn owned(alloc: Global, words: &str) -> Result<Vec<String>, AllocError> {
@@ -49,7 +49,8 @@ fn run_failing(
     Ok(Ran { status, written })
 }
 
-fn run(rt: &(impl Threads + Sync + AllocGlobal), bytes: &[u8]) -> Result<Ran, AllocError> {
+// Runs bytes.
+pub fn run(rt: &(impl Threads + Sync + AllocGlobal), bytes: &[u8]) -> Result<Ran, AllocError> {
     let bytes = Vec::from_slice(rt.alloc(), bytes)?;
     run_failing(rt, "run 1 0", bytes, 4096, &[], &[])
 }
@@ -109,7 +110,7 @@ fn bad_records(rt: HostRuntime) -> Result<(), Fail> {
             1,
             InputRule::Range,
         ),
-        (b"7,1,checkout,7\n".as_slice(), 1, InputRule::Kind),
+        (b"7,1,rows,5,0,0\n".as_slice(), 1, InputRule::Kind),
         (
             b"7,1,view,5,10\n3,1,paint,5\n".as_slice(),
             2,

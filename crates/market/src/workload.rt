@@ -5,7 +5,6 @@ ghost use Rattle.csv.specs.Records.{fields_of};
 ghost use Rattle.market_events.specs.Workload.{request_of};
 ghost use Rattle.market.specs.declared.workload.WorkFault.TheVariants.{OutOfMemory};
 ghost use Rattle.std.specs.List.{All};
-ghost use Rattle.market_events.specs.Answers.{IsRun};
 ghost use Rattle.market_events.specs.WellFormed.{IsRequest};
 ghost use Rattle.market.specs.Workload.{workload_of, at_record, TellsFault};
 
@@ -56,7 +55,6 @@ pub fn read_workload(alloc: Global, text: &[u8]) -> Result<Vec<Request>, WorkFau
     requires { length text.now ≤ MOST_BYTES }
     ensures said { MatchResult result (λ requests. workload_of text.now ≡ Ok requests.items) (TellsFault (workload_of text.now)) }
     ensures few { IfOk result (λ requests. vec_len requests ≤ MOST_BYTES) }
-    ensures run { IfOk result (λ requests. All IsRun requests.items) }
     ensures formed { IfOk result (λ requests. All IsRequest requests.items) }
 {
     let mut reader = open_records(alloc, text);
@@ -75,7 +73,6 @@ pub fn read_workload(alloc: Global, text: &[u8]) -> Result<Vec<Request>, WorkFau
 fn read_row(alloc: Global, row: &ByteRecord, number: u32) -> Result<Request, WorkFault>
     ensures said { MatchResult result (λ request. at_record number (request_of (fields_of row.now)) ≡ Ok request)
         (TellsFault (at_record number (request_of (fields_of row.now)))) }
-    ensures run { IfOk result IsRun }
     ensures formed { IfOk result IsRequest }
 {
     let fields = fields(alloc, row)?;

@@ -3,7 +3,16 @@ use Rattle.std.proofs.Common.{◌≡◌, ◌≢◌, ◌<◌, ℕ, List, [], ◌�
 use Rattle.market_events.specs.declared.workload.WorkRule.{WorkRule}
 use Rattle.market_events.specs.declared.workload.WorkRule.TheVariants as broken
 use Rattle.std.proofs.lemmas.List.{length-map}
-use Rattle.market_events.specs.Workload.{of_two, of_three, of_four, of_five, request_of}
+use Rattle.market_events.specs.Workload.{of_none, of_one, of_two, of_three, of_four, of_five, request_of}
+
+pub of_none-other : {B : Type 0} (result : Result B WorkRule) (xs : List (List ℕ)) → length xs ≢ 0 → of_none result xs ≡ Err broken.Fields
+of_none-other result [] h = absurd (h refl)
+of_none-other result (a ∷ xs) h = refl
+
+pub of_one-other : {B : Type 0} (f : List ℕ → Result B WorkRule) (xs : List (List ℕ)) → length xs ≢ 1 → of_one f xs ≡ Err broken.Fields
+of_one-other f [] h = refl
+of_one-other f (a ∷ []) h = absurd (h refl)
+of_one-other f (a ∷ b ∷ xs) h = refl
 
 pub of_two-other : {B : Type 0} (f : List ℕ → List ℕ → Result B WorkRule) (xs : List (List ℕ)) → length xs ≢ 2 → of_two f xs ≡ Err broken.Fields
 of_two-other f [] h = refl
@@ -42,4 +51,4 @@ request_of-few (a ∷ []) h = refl
 request_of-few (a ∷ b ∷ []) h = refl
 request_of-few (a ∷ b ∷ c ∷ xs) h = absurd (omega arith)
 
-pub ruleset counts = (of_two-other, of_three-other, of_four-other, of_five-other, length-map)
+pub ruleset counts = (of_none-other, of_one-other, of_two-other, of_three-other, of_four-other, of_five-other, length-map)

@@ -46,10 +46,22 @@ quantity_of text = number_up_to 1_000 text >>= not_zero
 abbrev pub pieces_of : List ℕ → Result ℕ WorkRule
 pieces_of text = number_up_to 1_000_000_000 text >>= not_zero
 
+-- the limit of a card
+abbrev pub limit_of : List ℕ → Result ℕ WorkRule
+limit_of text = number_up_to 1_000_000_000_000_000 text
+
 abbrev pub key_of : List ℕ → List ℕ → Result ProductKey WorkRule
 key_of seller product = id_number_of seller >>= λ s. id_number_of product >>= λ p. Ok (record { seller = s; product = p })
 
 -- what f gives of the arguments where there are as many, else the rule that there are not
+abbrev pub of_none : {B : Type 0} → Result B WorkRule → List (List ℕ) → Result B WorkRule
+of_none result [] = result
+of_none result arguments = Err broken.Fields
+
+abbrev pub of_one : {B : Type 0} → (List ℕ → Result B WorkRule) → List (List ℕ) → Result B WorkRule
+of_one f (a ∷ []) = f a
+of_one f arguments = Err broken.Fields
+
 abbrev pub of_two : {B : Type 0} → (List ℕ → List ℕ → Result B WorkRule) → List (List ℕ) → Result B WorkRule
 of_two f (a ∷ b ∷ []) = f a b
 of_two f arguments = Err broken.Fields
@@ -93,6 +105,25 @@ stock_of = of_three (λ seller product pieces. key_of seller product >>= λ key.
 abbrev pub level_of : List (List ℕ) → Result Ask WorkRule
 level_of = of_two (λ seller product. key_of seller product >>= λ key. Ok (ask.Level key))
 
+abbrev pub checkout_of : List (List ℕ) → Result Ask WorkRule
+checkout_of = of_one (λ customer. id_number_of customer >>= λ c. Ok (ask.Checkout c))
+
+abbrev pub order_of : List (List ℕ) → Result Ask WorkRule
+order_of = of_two (λ caller number.
+    id_number_of caller >>= λ c. id_number_of number >>= λ n. Ok (ask.Order (record { caller = c; number = n })))
+
+abbrev pub card_of : List (List ℕ) → Result Ask WorkRule
+card_of = of_two (λ customer limit. id_number_of customer >>= λ c. limit_of limit >>= λ l. Ok (ask.Card c l))
+
+abbrev pub deliver_of : List (List ℕ) → Result Ask WorkRule
+deliver_of = of_none (Ok ask.Deliver)
+
+abbrev pub customer_of : List (List ℕ) → Result Ask WorkRule
+customer_of = of_one (λ customer. id_number_of customer >>= λ c. Ok (ask.Customer c))
+
+abbrev pub dashboard_of : List (List ℕ) → Result Ask WorkRule
+dashboard_of = of_one (λ seller. id_number_of seller >>= λ s. Ok (ask.Dashboard s))
+
 -- what a kind asks for with these arguments
 abbrev pub ask_named : List ℕ → List (List ℕ) → Result Ask WorkRule
 ask_named kind arguments =
@@ -102,8 +133,14 @@ ask_named kind arguments =
     else if pointwise nat_eq kind (codes "view") then view_of arguments
     else if pointwise nat_eq kind (codes "line") then line_of arguments
     else if pointwise nat_eq kind (codes "remove") then remove_of arguments
+    else if pointwise nat_eq kind (codes "checkout") then checkout_of arguments
     else if pointwise nat_eq kind (codes "stock") then stock_of arguments
     else if pointwise nat_eq kind (codes "level") then level_of arguments
+    else if pointwise nat_eq kind (codes "order") then order_of arguments
+    else if pointwise nat_eq kind (codes "card") then card_of arguments
+    else if pointwise nat_eq kind (codes "deliver") then deliver_of arguments
+    else if pointwise nat_eq kind (codes "customer") then customer_of arguments
+    else if pointwise nat_eq kind (codes "dashboard") then dashboard_of arguments
     else Err broken.Kind
 
 -- the request of a record

@@ -30,6 +30,15 @@ fn records_are_read(rt: HostRuntime) -> Result<(), Fail> {
         ("7,1,remove,7,5,10", Ask::Remove(7, key)),
         ("7,1,stock,5,10,1000000000", Ask::Stock(key, 1_000_000_000)),
         ("7,1,level,5,10", Ask::Level(key)),
+        ("7,1,checkout,7", Ask::Checkout(7)),
+        ("7,1,order,7,1", Ask::Order(id)),
+        (
+            "7,1,card,7,1000000000000000",
+            Ask::Card(7, 1_000_000_000_000_000),
+        ),
+        ("7,1,deliver", Ask::Deliver),
+        ("7,1,customer,7", Ask::Customer(7)),
+        ("7,1,dashboard,5", Ask::Dashboard(5)),
     ] {
         let fields = fields_of(rt.alloc(), record)?;
         assert_eq!(rt;
@@ -62,7 +71,10 @@ fn records_are_refused(rt: HostRuntime) -> Result<(), Fail> {
         ("7,1,line,7,5,10,01,0", WorkRule::Number),
         ("7,1,stock,5,10,0", WorkRule::Range),
         ("7,1,stock,5,10,1000000001", WorkRule::Range),
-        ("7,1,checkout,7", WorkRule::Kind),
+        ("7,1,card,7,1000000000000001", WorkRule::Range),
+        ("7,1,order,7", WorkRule::Fields),
+        ("7,1,deliver,7", WorkRule::Fields),
+        ("7,1,rows,5,0,0", WorkRule::Kind),
         ("7,1,,5,10", WorkRule::Kind),
         ("7,1,View,5,10", WorkRule::Kind),
     ] {

@@ -1,9 +1,8 @@
 //! The records of a workload.
 
 ghost use Rattle.std.specs.Prelude.{◌≡◌, ◌≢◌, ◌≤◌, true, map, length, IfOk, MatchResult};
-ghost use Rattle.market_events.specs.Answers.{is_run, IsRun};
 ghost use Rattle.market_events.specs.WellFormed.{IsAsk, IsRequest, ArePieces};
-ghost use Rattle.market_events.specs.Workload.{request_of, ask_named, create_of, price_of, delete_of, view_of, line_of, remove_of, stock_of, level_of, key_of, id_number_of, cents_of, quantity_of, pieces_of, number_up_to};
+ghost use Rattle.market_events.specs.Workload.{request_of, ask_named, create_of, price_of, delete_of, view_of, line_of, remove_of, checkout_of, stock_of, level_of, order_of, card_of, deliver_of, customer_of, dashboard_of, key_of, id_number_of, cents_of, quantity_of, pieces_of, limit_of, number_up_to};
 
 use crate::requests::{Ask, Request};
 use market_amounts::{Cents, NumberError, ProductKey, Quantity, RequestId, read_number};
@@ -11,6 +10,9 @@ use thiserror::Error;
 
 // The most pieces that a request stocks.
 const MOST_PIECES: u64 = 1_000_000_000;
+
+// The greatest limit of a card.
+const MOST_LIMIT: u64 = 1_000_000_000_000_000;
 
 /// The rules of a workload record.
 #[derive(Clone, Copy, Debug, PartialEq, Eq, Error)]
@@ -34,7 +36,6 @@ pub enum WorkRule {
 /// range of each argument in turn.
 pub fn read_fields(fields: &[Vec<u8>]) -> Result<Request, WorkRule>
     ensures exact { result ≡ request_of (map (λ field. field.items) fields.now) }
-    ensures run { IfOk result IsRun }
     ensures formed { IfOk result IsRequest }
 {
     let [caller, number, kind, arguments @ ..] = fields else {
@@ -51,7 +52,6 @@ pub fn read_fields(fields: &[Vec<u8>]) -> Result<Request, WorkRule>
 
 fn ask_of_kind(kind: &[u8], arguments: &[Vec<u8>]) -> Result<Ask, WorkRule>
     ensures exact { result ≡ ask_named kind.now (map (λ field. field.items) arguments.now) }
-    ensures run { IfOk result (λ ask. is_run ask ≡ true) }
     ensures formed { IfOk result IsAsk }
 {
     if kind == b"create".as_slice() {
@@ -66,10 +66,22 @@ fn ask_of_kind(kind: &[u8], arguments: &[Vec<u8>]) -> Result<Ask, WorkRule>
         line(arguments)
     } else if kind == b"remove".as_slice() {
         remove(arguments)
+    } else if kind == b"checkout".as_slice() {
+        checkout(arguments)
     } else if kind == b"stock".as_slice() {
         stock(arguments)
     } else if kind == b"level".as_slice() {
         level(arguments)
+    } else if kind == b"order".as_slice() {
+        order(arguments)
+    } else if kind == b"card".as_slice() {
+        card(arguments)
+    } else if kind == b"deliver".as_slice() {
+        deliver(arguments)
+    } else if kind == b"customer".as_slice() {
+        customer(arguments)
+    } else if kind == b"dashboard".as_slice() {
+        dashboard(arguments)
     } else {
         Err(WorkRule::Kind)
     }
@@ -78,7 +90,6 @@ fn ask_of_kind(kind: &[u8], arguments: &[Vec<u8>]) -> Result<Ask, WorkRule>
 #[tactic(auto, using(crate::proofs::FieldCounts::counts))]
 fn create(arguments: &[Vec<u8>]) -> Result<Ask, WorkRule>
     ensures exact { result ≡ create_of (map (λ field. field.items) arguments.now) }
-    ensures run { IfOk result (λ ask. is_run ask ≡ true) }
     ensures formed { IfOk result IsAsk }
 {
     let [seller, product, price, freight] = exactly::<4>(arguments)?;
@@ -91,7 +102,6 @@ fn create(arguments: &[Vec<u8>]) -> Result<Ask, WorkRule>
 #[tactic(auto, using(crate::proofs::FieldCounts::counts))]
 fn price(arguments: &[Vec<u8>]) -> Result<Ask, WorkRule>
     ensures exact { result ≡ price_of (map (λ field. field.items) arguments.now) }
-    ensures run { IfOk result (λ ask. is_run ask ≡ true) }
     ensures formed { IfOk result IsAsk }
 {
     let [seller, product, price] = exactly::<3>(arguments)?;
@@ -103,7 +113,6 @@ fn price(arguments: &[Vec<u8>]) -> Result<Ask, WorkRule>
 #[tactic(auto, using(crate::proofs::FieldCounts::counts))]
 fn delete(arguments: &[Vec<u8>]) -> Result<Ask, WorkRule>
     ensures exact { result ≡ delete_of (map (λ field. field.items) arguments.now) }
-    ensures run { IfOk result (λ ask. is_run ask ≡ true) }
     ensures formed { IfOk result IsAsk }
 {
     let [seller, product] = exactly::<2>(arguments)?;
@@ -114,7 +123,6 @@ fn delete(arguments: &[Vec<u8>]) -> Result<Ask, WorkRule>
 #[tactic(auto, using(crate::proofs::FieldCounts::counts))]
 fn view(arguments: &[Vec<u8>]) -> Result<Ask, WorkRule>
     ensures exact { result ≡ view_of (map (λ field. field.items) arguments.now) }
-    ensures run { IfOk result (λ ask. is_run ask ≡ true) }
     ensures formed { IfOk result IsAsk }
 {
     let [seller, product] = exactly::<2>(arguments)?;
@@ -125,7 +133,6 @@ fn view(arguments: &[Vec<u8>]) -> Result<Ask, WorkRule>
 #[tactic(auto, using(crate::proofs::FieldCounts::counts))]
 fn line(arguments: &[Vec<u8>]) -> Result<Ask, WorkRule>
     ensures exact { result ≡ line_of (map (λ field. field.items) arguments.now) }
-    ensures run { IfOk result (λ ask. is_run ask ≡ true) }
     ensures formed { IfOk result IsAsk }
 {
     let [customer, seller, product, quantity, voucher] = exactly::<5>(arguments)?;
@@ -139,7 +146,6 @@ fn line(arguments: &[Vec<u8>]) -> Result<Ask, WorkRule>
 #[tactic(auto, using(crate::proofs::FieldCounts::counts))]
 fn remove(arguments: &[Vec<u8>]) -> Result<Ask, WorkRule>
     ensures exact { result ≡ remove_of (map (λ field. field.items) arguments.now) }
-    ensures run { IfOk result (λ ask. is_run ask ≡ true) }
     ensures formed { IfOk result IsAsk }
 {
     let [customer, seller, product] = exactly::<3>(arguments)?;
@@ -149,9 +155,18 @@ fn remove(arguments: &[Vec<u8>]) -> Result<Ask, WorkRule>
 }
 
 #[tactic(auto, using(crate::proofs::FieldCounts::counts))]
+fn checkout(arguments: &[Vec<u8>]) -> Result<Ask, WorkRule>
+    ensures exact { result ≡ checkout_of (map (λ field. field.items) arguments.now) }
+    ensures formed { IfOk result IsAsk }
+{
+    let [customer] = exactly::<1>(arguments)?;
+    let customer = id_number(customer)?;
+    Ok(Ask::Checkout(customer))
+}
+
+#[tactic(auto, using(crate::proofs::FieldCounts::counts))]
 fn stock(arguments: &[Vec<u8>]) -> Result<Ask, WorkRule>
     ensures exact { result ≡ stock_of (map (λ field. field.items) arguments.now) }
-    ensures run { IfOk result (λ ask. is_run ask ≡ true) }
     ensures formed { IfOk result IsAsk }
 {
     let [seller, product, pieces] = exactly::<3>(arguments)?;
@@ -163,12 +178,63 @@ fn stock(arguments: &[Vec<u8>]) -> Result<Ask, WorkRule>
 #[tactic(auto, using(crate::proofs::FieldCounts::counts))]
 fn level(arguments: &[Vec<u8>]) -> Result<Ask, WorkRule>
     ensures exact { result ≡ level_of (map (λ field. field.items) arguments.now) }
-    ensures run { IfOk result (λ ask. is_run ask ≡ true) }
     ensures formed { IfOk result IsAsk }
 {
     let [seller, product] = exactly::<2>(arguments)?;
     let key = key(seller, product)?;
     Ok(Ask::Level(key))
+}
+
+#[tactic(auto, using(crate::proofs::FieldCounts::counts))]
+fn order(arguments: &[Vec<u8>]) -> Result<Ask, WorkRule>
+    ensures exact { result ≡ order_of (map (λ field. field.items) arguments.now) }
+    ensures formed { IfOk result IsAsk }
+{
+    let [caller, number] = exactly::<2>(arguments)?;
+    Ok(Ask::Order(RequestId {
+        caller: id_number(caller)?,
+        number: id_number(number)?,
+    }))
+}
+
+#[tactic(auto, using(crate::proofs::FieldCounts::counts))]
+fn card(arguments: &[Vec<u8>]) -> Result<Ask, WorkRule>
+    ensures exact { result ≡ card_of (map (λ field. field.items) arguments.now) }
+    ensures formed { IfOk result IsAsk }
+{
+    let [customer, limit] = exactly::<2>(arguments)?;
+    let customer = id_number(customer)?;
+    let limit = number(limit, MOST_LIMIT)?;
+    Ok(Ask::Card(customer, limit))
+}
+
+#[tactic(auto, using(crate::proofs::FieldCounts::counts))]
+fn deliver(arguments: &[Vec<u8>]) -> Result<Ask, WorkRule>
+    ensures exact { result ≡ deliver_of (map (λ field. field.items) arguments.now) }
+    ensures formed { IfOk result IsAsk }
+{
+    let [] = exactly::<0>(arguments)?;
+    Ok(Ask::Deliver)
+}
+
+#[tactic(auto, using(crate::proofs::FieldCounts::counts))]
+fn customer(arguments: &[Vec<u8>]) -> Result<Ask, WorkRule>
+    ensures exact { result ≡ customer_of (map (λ field. field.items) arguments.now) }
+    ensures formed { IfOk result IsAsk }
+{
+    let [customer] = exactly::<1>(arguments)?;
+    let customer = id_number(customer)?;
+    Ok(Ask::Customer(customer))
+}
+
+#[tactic(auto, using(crate::proofs::FieldCounts::counts))]
+fn dashboard(arguments: &[Vec<u8>]) -> Result<Ask, WorkRule>
+    ensures exact { result ≡ dashboard_of (map (λ field. field.items) arguments.now) }
+    ensures formed { IfOk result IsAsk }
+{
+    let [seller] = exactly::<1>(arguments)?;
+    let seller = id_number(seller)?;
+    Ok(Ask::Dashboard(seller))
 }
 
 // The arguments, where there are as many as the kind has.

@@ -1,4 +1,4 @@
-use Rattle.std.proofs.Common.{take, length, ap, ◌∙◌, arith}
+use Rattle.std.proofs.Common.{take}
 use Rattle.market.proofs.Lines.{next_line, all_lines}
 use Rattle.market.proofs.answers.run_text.Goals as goal
 
@@ -11,5 +11,5 @@ loop-request-preserved c =
 
 pub returns : goal.returns
 returns c =
-    all_lines c.loop-request.hand c.args.requests.now c.loop-request.request-index c.loop-request.text.items c.append_counts.new.text.items c.len.result
-    c.loop-request-test.false c.loop-request.invariant.0 c.loop-request.invariant.1 c.len.ensures c.in_ok-append_counts.ensures
+    all_lines c.loop-request.hand c.args.requests.now c.loop-request.request-index c.loop-request.text.items c.append_counts.new.text.items c.len.result c.whole.result c.undone.result
+    c.loop-request-test.false c.loop-request.invariant.0 c.loop-request.invariant.1 c.len.ensures c.whole.ensures c.undone.ensures c.in_ok-append_counts.ensures

@@ -1,7 +1,6 @@
 use Rattle.std.proofs.Common.{Err, ap, ◌∙◌, arith}
 use Rattle.std.proofs.lemmas.Result.{err_from_is_err_and}
 use Rattle.std.proofs.lemmas.List.Elements.{All-nil, All-push}
-use Rattle.market_events.specs.Answers.{IsRun}
 use Rattle.market_events.specs.WellFormed.{IsRequest}
 use Rattle.csv.specs.Records.{fields_of}
 use Rattle.market.proofs.Workloads.{begins, goes_on, tells_fault, still_less, ends}
@@ -11,7 +10,6 @@ pub records-init : goal.records-init
 records-init c = (
   rw c.new-requests.ensures.items (begins c.args.text.now c.open_records-reader.result c.open_records-reader.ensures c.requires),
   c.new-requests.ensures.len,
-  rw c.new-requests.ensures.items (All-nil IsRun),
   rw c.new-requests.ensures.items (All-nil IsRequest),
 )
 
@@ -33,8 +31,7 @@ records-preserved c =
     let found = rw c.if-branch.true at c.in_ok-next_record.ensures in (
       rw c.in_ok-push.ensures.items (goes_on c.args.text.now c.records.reader c.next_record.new.reader c.records.number c.records.requests.items (fields_of c.next_record.new.row) _ c.records.invariant.0 found c.in_ok-id.ensures.said),
       omega (arith, c.in_ok-push.ensures.len, c.records.invariant.1),
-      rw c.in_ok-push.ensures.items (All-push IsRun c.records.requests.items _ c.records.invariant.2 c.in_ok-id.ensures.run),
-      rw c.in_ok-push.ensures.items (All-push IsRequest c.records.requests.items _ c.records.invariant.3 c.in_ok-id.ensures.formed),
+      rw c.in_ok-push.ensures.items (All-push IsRequest c.records.requests.items _ c.records.invariant.2 c.in_ok-id.ensures.formed),
     )
 
 pub returns-clause-said : goal.returns-clause-said
@@ -46,4 +43,4 @@ pub returns-clause-few : goal.returns-clause-few
 returns-clause-few c = omega (arith, c.records.invariant.0.within, c.records.invariant.1)
 
 pub returns-clause-formed : goal.returns-clause-formed
-returns-clause-formed c = c.records.invariant.3
+returns-clause-formed c = c.records.invariant.2

@@ -6,6 +6,5 @@ use Rattle.market_events.proofs.workload.read_fields.Goals as goal
 pub returns-in_default : goal.returns-in_default
 returns-in_default c = record {
   exact = let few = request_of-few (map (λ field. field.items) c.args.fields.now) (omega (arith, length-map c.args.fields.now (λ field. field.items))) in cc;
-  run = tt;
   formed = tt;
 }

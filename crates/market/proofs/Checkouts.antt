@@ -1,0 +1,86 @@
+-- Lists of checkouts with one more: whole, or not paid.
+use Rattle.std.proofs.Common.{◌≡◌, ◌+◌, Bool, true, false, ◌&&◌, ◌||◌, List, [], ◌∷◌, ◌++◌, if◌then◌else◌, sum_by, refl, ap, sym, ◌∙◌, append-nil, append_assoc, arith}
+use Rattle.std.specs.List.{list_any, list_all}
+use Rattle.std.proofs.lemmas.List.Concat.{flat_map-append}
+use Rattle.std.proofs.lemmas.List.Folds.{list_any-append}
+use Rattle.std.proofs.lemmas.List.Sums.{sum_by_push}
+use Rattle.market_amounts.specs.declared.keys.RequestId.{RequestId}
+use Rattle.market_events.specs.declared.bodies.Item.{Item}
+use Rattle.market_events.specs.declared.bodies.PricedLine.{PricedLine}
+use Rattle.market_events.specs.Orders.{is_of}
+use Rattle.market_events.specs.Requests.{same_id, same_key}
+use Rattle.market_events.specs.Services.{is_line_of}
+use Rattle.market_events.specs.Stocks.{Reservation}
+use Rattle.market_events.proofs.ListLaws.{and_both, list_any-push, flat_map-push, or_parts}
+use Rattle.market_events.proofs.ReservationLaws.{lines-none}
+use Rattle.market_events.proofs.SameLaws.{same_id-true}
+use Rattle.market.specs.Acts.{lines_if, lines_of, cost_if}
+
+module _ (whole unpaid : List Reservation) (r : Reservation) (id : RequestId) where
+  -- a checkout is among them where it was, or is this one
+  pub any-whole : list_any (is_of id) ((whole ++ r ∷ []) ++ unpaid) ≡ (list_any (is_of id) (whole ++ unpaid) || same_id r.checkout id)
+  any-whole =
+      list_any-append (is_of id) (whole ++ r ∷ []) unpaid
+      ∙ ap (λ b. b || list_any (is_of id) unpaid) (list_any-push (is_of id) whole r)
+      ∙ swap (list_any (is_of id) whole) (same_id r.checkout id) (list_any (is_of id) unpaid)
+      ∙ ap (λ b. b || same_id r.checkout id) (sym (list_any-append (is_of id) whole unpaid))
+    where
+      swap : (a b c : Bool) → ((a || b) || c) ≡ ((a || c) || b)
+      swap true b c = refl
+      swap false true true = refl
+      swap false true false = refl
+      swap false false true = refl
+      swap false false false = refl
+
+  pub any-unpaid : list_any (is_of id) (whole ++ (unpaid ++ r ∷ [])) ≡ (list_any (is_of id) (whole ++ unpaid) || same_id r.checkout id)
+  any-unpaid = ap (list_any (is_of id)) (sym (append_assoc whole unpaid (r ∷ []))) ∙ list_any-push (is_of id) (whole ++ unpaid) r
+
+  -- the lines of a checkout, where this one is new
+  pub lines-whole : list_any (is_of r.checkout) (whole ++ unpaid) ≡ false → lines_of ((whole ++ r ∷ []) ++ unpaid) id ≡ lines_of (whole ++ unpaid) id ++ lines_if id r
+  lines-whole new =
+      flat_map-append (lines_if id) (whole ++ r ∷ []) unpaid
+      ∙ ap (λ ls. ls ++ lines_of unpaid id) (flat_map-push (lines_if id) whole r)
+      ∙ either (same_id r.checkout id) refl
+    where
+      parts : list_any (is_of r.checkout) whole || list_any (is_of r.checkout) unpaid ≡ false
+      parts = sym (list_any-append (is_of r.checkout) whole unpaid) ∙ new
+
+      none : same_id r.checkout id ≡ true → lines_of unpaid id ≡ []
+      none same = lines-none id unpaid (ap (λ i. list_any (is_of i) unpaid) (sym (same_id-true r.checkout id same)) ∙ (or_parts (list_any (is_of r.checkout) whole) (list_any (is_of r.checkout) unpaid) parts).1)
+
+      either : (b : Bool) → same_id r.checkout id ≡ b → (lines_of whole id ++ (if b then r.lines else [])) ++ lines_of unpaid id ≡ lines_of (whole ++ unpaid) id ++ (if b then r.lines else [])
+      either true same =
+          ap (λ ls. (lines_of whole id ++ r.lines) ++ ls) (none same) ∙ append-nil (lines_of whole id ++ r.lines)
+          ∙ ap (λ ls. ls ++ r.lines) (sym (append-nil (lines_of whole id)) ∙ ap (λ ls. lines_of whole id ++ ls) (sym (none same)) ∙ sym (flat_map-append (lines_if id) whole unpaid))
+      either false other =
+          ap (λ ls. ls ++ lines_of unpaid id) (append-nil (lines_of whole id)) ∙ sym (flat_map-append (lines_if id) whole unpaid) ∙ sym (append-nil (lines_of (whole ++ unpaid) id))
+
+  pub lines-unpaid : lines_of (whole ++ (unpaid ++ r ∷ [])) id ≡ lines_of (whole ++ unpaid) id ++ lines_if id r
+  lines-unpaid = ap (λ rs. lines_of rs id) (sym (append_assoc whole unpaid (r ∷ []))) ∙ flat_map-push (lines_if id) (whole ++ unpaid) r
+
+  -- what it cost
+  pub total-whole : sum_by (cost_if id) (whole ++ r ∷ []) + sum_by (cost_if id) unpaid ≡ (sum_by (cost_if id) whole + sum_by (cost_if id) unpaid) + cost_if id r
+  total-whole = omega (arith, sum_by_push (cost_if id) whole r)
+
+  pub total-unpaid : sum_by (cost_if id) whole + sum_by (cost_if id) (unpaid ++ r ∷ []) ≡ (sum_by (cost_if id) whole + sum_by (cost_if id) unpaid) + cost_if id r
+  total-unpaid = omega (arith, sum_by_push (cost_if id) unpaid r)
+
+-- the item is a line of one of these checkouts
+abbrev pub is_line_in : List Reservation → Item → Bool
+is_line_in rs item = list_any (λ (r : Reservation). is_of item.checkout r && is_line_of r.lines item) rs
+
+-- where all pass a test, all pass a weaker one
+pub all_weaker : {A : Type 0} (test weak : A → Bool) → ((x : A) → test x ≡ true → weak x ≡ true) → (xs : List A) → list_all test xs ≡ true → list_all weak xs ≡ true
+all_weaker test weak weaker [] all = refl
+all_weaker test weak weaker (x ∷ xs) all =
+    let both = and_both (test x) (list_all test xs) all in
+    rw (weaker x both.0) (all_weaker test weak weaker xs both.1)
+
+-- a line of the item is among the lines of its checkout
+pub line_among : (id : RequestId) (item : Item) (rs : List Reservation) → list_any (λ (r : Reservation). is_of id r && is_line_of r.lines item) rs ≡ is_line_of (lines_of rs id) item
+line_among id item [] = refl
+line_among id item (r ∷ rs) = ap (λ b. (is_of id r && is_line_of r.lines item) || b) (line_among id item rs) ∙ either (is_of id r)
+  where
+    either : (b : Bool) → ((b && is_line_of r.lines item) || is_line_of (lines_of rs id) item) ≡ is_line_of ((if b then r.lines else []) ++ lines_of rs id) item
+    either true = sym (list_any-append (λ (line : PricedLine). same_key line.key item.key) r.lines (lines_of rs id))
+    either false = refl

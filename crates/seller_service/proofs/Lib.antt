@@ -1,0 +1,11 @@
+pub mod Lists
+pub mod Showing
+pub mod Bringing
+pub mod Joining
+pub mod Places
+pub mod Numbers
+pub mod Putting
+pub mod Entered
+pub mod SellerCells
+pub mod Touching
+pub mod Testing

@@ -1,0 +1,96 @@
+use Rattle.std.proofs.Common.{◌≡◌, ℕ, ◌+◌, ◌≤◌, ◌<◌, true, length, count_by, ap, sym, subst, ◌∙◌, arith}
+use Rattle.market_events.specs.Sellers.{entries_at}
+use Rattle.market_events.specs.Standing.{is_named, most_touched}
+use Rattle.market_events.proofs.KeyedCells.{if_ok}
+use Rattle.seller_service.specs.declared.cells.Place.TheVariants as place
+use Rattle.seller_service.specs.Cells.{place_name}
+use Rattle.seller_service.specs.Kept.{Kept, changes_at, lines_at, is_of_seller, brought_by}
+use Rattle.seller_service.proofs.Joining.{few_changes, can_stands}
+use Rattle.seller_service.proofs.SellerCells.{AreTold, covers}
+use Rattle.seller_service.proofs.Touching.{few_brought, no_entries, told_changes, told_both}
+use Rattle.seller_service.proofs.sellers.SellersTabled.touches.Goals as goal
+use Rattle.seller_service.proofs.sellers.SellersTabled.touches.Goals.{in-Invoice+in_ok-put_entry_names, in_default}
+
+pub put_change_names-requires : goal.put_change_names-requires
+put_change_names-requires c = λ seller.
+    omega (
+      arith,
+      few_changes c.args.self.now (can_stands c.args.self.now c.args._from c.args.body.now c.requires) seller,
+      ap (λ (kept : Kept). length (changes_at kept.ledgers seller)) c.self.view_is,
+      (few_brought c.args.self.now c.args._from c.args.body.now c.requires).most,
+      ap length (c.as_slice.ensures.value ∙ c.in_ok-changes.ensures),
+      ap (λ (kept : Kept). length (brought_by (lines_at kept.invoices) c.args.body.now)) c.self.view_is,
+    )
+
+pub put_entry_names-requires : goal.put_entry_names-requires
+put_entry_names-requires c = λ seller.
+    omega (
+      arith,
+      few_changes c.args.self.now (can_stands c.args.self.now c.args._from c.args.body.now c.requires) seller,
+      ap (λ (kept : Kept). length (changes_at kept.ledgers seller)) c.self.view_is,
+      (few_brought c.args.self.now c.args._from c.args.body.now c.requires).most,
+      ap length (c.as_slice-in-Invoice.ensures.value ∙ c.in_ok-changes.ensures),
+      ap (λ (kept : Kept). length (brought_by (lines_at kept.invoices) c.args.body.now)) c.self.view_is,
+    )
+
+-- the names are those of the changes that the body brings
+told : (c : goal.After-drop-changes-2) → AreTold c.match-body.names (changes_at c.self.inside.ledgers.entries) (brought_by (lines_at c.self.inside.invoices.entries) c.args.body.now)
+told c =
+    let changed : (seller number : ℕ) → length (changes_at c.self.inside.ledgers.entries seller) < number
+    → number ≤ length (changes_at c.self.inside.ledgers.entries seller) + count_by (is_of_seller seller) (brought_by (lines_at c.self.inside.invoices.entries) c.args.body.now)
+    → is_named c.put_change_names.new.names (place_name (place.Change seller number)) ≡ true
+    = λ seller number above few.
+    c.in_ok-put_change_names.ensures.named seller number above
+    (subst (λ cs. number ≤ length (changes_at c.self.inside.ledgers.entries seller) + count_by (is_of_seller seller) cs) (sym (c.as_slice.ensures.value ∙ c.in_ok-changes.ensures)) few) in
+    elim c.match-body.branch [
+      | in-Invoice+in_ok-put_entry_names w ↦
+          subst (λ names. AreTold names (changes_at c.self.inside.ledgers.entries) (brought_by (lines_at c.self.inside.invoices.entries) c.args.body.now)) (sym w.names-is)
+          (told_both w.put_entry_names.new.names (changes_at c.self.inside.ledgers.entries) (brought_by (lines_at c.self.inside.invoices.entries) c.args.body.now)
+          (λ seller number above few. w.in_ok-put_entry_names.ensures.stay (place_name (place.Change seller number)) (changed seller number above few))
+          (λ seller number above few.
+          w.in_ok-put_entry_names.ensures.named seller number above
+          (subst (λ cs. number ≤ length (entries_at (changes_at c.self.inside.ledgers.entries seller)) + count_by (is_of_seller seller) cs) (sym (w.as_slice-in-Invoice.ensures.value ∙ c.in_ok-changes.ensures)) few)))
+      | in_default w ↦
+          subst (λ names. AreTold names (changes_at c.self.inside.ledgers.entries) (brought_by (lines_at c.self.inside.invoices.entries) c.args.body.now)) (sym w.names-is)
+          (told_changes c.put_change_names.new.names (changes_at c.self.inside.ledgers.entries) (brought_by (lines_at c.self.inside.invoices.entries) c.args.body.now) changed
+          (λ seller. no_entries (is_of_seller seller) (lines_at c.self.inside.invoices.entries) c.args.body.now w.in_default.not-Invoice))
+    ]
+
+pub returns-clause-covers : goal.returns-clause-covers
+returns-clause-covers c =
+    if_ok (λ names e steps stands fit name other.
+    covers names.items c.args.self.now steps c.args._from c.args.body.now stands fit
+    (subst (λ (kept : Kept). AreTold names.items (changes_at kept.ledgers) (brought_by (lines_at kept.invoices) c.args.body.now)) c.self.view_is
+    (subst (λ ns. AreTold ns (changes_at c.self.inside.ledgers.entries) (brought_by (lines_at c.self.inside.invoices.entries) c.args.body.now)) (sym e) (told c)))
+    name other) c.into_names.result c.into_names.ensures.is
+
+-- they are few
+few : (c : goal.After-drop-changes-2) → length c.match-body.names ≤ most_touched c.args.body.now
+few c =
+    elim c.match-body.branch [
+      | in-Invoice+in_ok-put_entry_names w ↦
+          omega (
+            arith,
+            ap length w.names-is,
+            ap length c.new-names.ensures,
+            c.in_ok-put_change_names.ensures.few,
+            ap length (c.as_slice.ensures.value ∙ c.in_ok-changes.ensures),
+            ap (λ (kept : Kept). length (brought_by (lines_at kept.invoices) c.args.body.now)) c.self.view_is,
+            w.in_ok-put_entry_names.ensures.few,
+            ap length (w.as_slice-in-Invoice.ensures.value ∙ c.in_ok-changes.ensures),
+            (few_brought c.args.self.now c.args._from c.args.body.now c.requires).twice w.in-Invoice.field-0 w.in-Invoice.field-1 w.in-Invoice.field-2 w.in-Invoice.field-3 w.in-Invoice.is,
+          )
+      | in_default w ↦
+          omega (
+            arith,
+            ap length w.names-is,
+            ap length c.new-names.ensures,
+            c.in_ok-put_change_names.ensures.few,
+            ap length (c.as_slice.ensures.value ∙ c.in_ok-changes.ensures),
+            ap (λ (kept : Kept). length (brought_by (lines_at kept.invoices) c.args.body.now)) c.self.view_is,
+            (few_brought c.args.self.now c.args._from c.args.body.now c.requires).touched,
+          )
+    ]
+
+pub returns-clause-few : goal.returns-clause-few
+returns-clause-few c = if_ok (λ names e. omega (arith, names.ok.0, ap length e, few c)) c.into_names.result c.into_names.ensures.is

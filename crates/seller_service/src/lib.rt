@@ -1,0 +1,16 @@
+//! The sellers: each line of a checkout is an entry of its seller, which is invoiced, paid, shipped and delivered, or
+//! cancelled. The seller service keeps the changes of each seller's entries, and shows at a dashboard which of them are in
+//! progress.
+#![tactic(auto)]
+
+mod brought;
+mod cells;
+mod change;
+mod dashboard;
+mod ledger;
+mod ledgers;
+mod sellers;
+#[cfg(test)]
+mod tests;
+
+pub use sellers::Sellers;

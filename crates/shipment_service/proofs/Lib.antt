@@ -1,0 +1,16 @@
+pub mod Padding
+pub mod Outcomes
+pub mod Numbers
+pub mod Lining
+pub mod Turns
+pub mod Closing
+pub mod Grouping
+pub mod Heads
+pub mod Serving
+pub mod Delivered
+pub mod Runs
+pub mod Steps
+pub mod Joining
+pub mod PackageCells
+pub mod Touched
+pub mod Testing

@@ -1,0 +1,5 @@
+pub mod Waiting
+pub mod Packed
+pub mod Kept
+pub mod Holding
+pub mod Cells

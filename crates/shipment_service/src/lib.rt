@@ -1,0 +1,17 @@
+//! Shipments: they make a package for each line of a paid checkout, and deliver packages when they are asked to. A
+//! delivery serves the ten sellers whose oldest open packages have the least numbers, and takes of each the open
+//! packages of the checkout of that one.
+#![tactic(auto)]
+
+mod names;
+mod oldest;
+mod package;
+mod queue;
+mod queues;
+mod shipments;
+#[cfg(test)]
+mod tests;
+mod waiting;
+
+pub use package::Package;
+pub use shipments::Shipments;
