@@ -20,7 +20,7 @@ use Rattle.market_events.specs.WellFormed.{total_of}
 use Rattle.market_events.proofs.CustomerLaws.{answers-customer, confirmed_count-same, confirmed_count-confirmed, failed_count-same, failed_count-failed}
 use Rattle.market_events.proofs.ListLaws.{and_from, and_both}
 use Rattle.market_events.proofs.OrderLaws.{items_taken-same, items_taken-push}
-use Rattle.market.specs.Acts.{Acts, count_for, customer_table}
+use Rattle.market_history.specs.Acts.{Acts, count_for, customer_table}
 use Rattle.market.specs.Agreeing.{CustomersAgree}
 use Rattle.market.specs.Carrying.{IsFresh, most_made}
 use Rattle.market.proofs.Fresh.{same_number, fits_by, few_before, none_settled}

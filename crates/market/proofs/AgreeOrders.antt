@@ -29,7 +29,7 @@ use Rattle.market_events.proofs.OrderRuns.{answers-order}
 use Rattle.market_events.proofs.ReservationLaws.{lines-none}
 use Rattle.market_events.proofs.SameLaws.{same_id-self, same_lines-self}
 use Rattle.market_events.proofs.StepLaws.{is_taken-same, is_taken-push, is_settled-push}
-use Rattle.market.specs.Acts.{Acts, lines_of, lines_if, cost_if, status_by, lines_waiting, order_table}
+use Rattle.market_history.specs.Acts.{Acts, lines_of, lines_if, cost_if, status_by, lines_waiting, order_table}
 use Rattle.market.specs.Agreeing.{OrdersAgree}
 use Rattle.market.specs.Carrying.{IsFresh, most_made}
 use Rattle.market.proofs.Checkouts.{any-whole, any-unpaid, lines-whole, lines-unpaid, total-whole, total-unpaid, is_line_in, line_among, all_weaker}

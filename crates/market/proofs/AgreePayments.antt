@@ -21,7 +21,7 @@ use Rattle.market_events.specs.WellFormed.{total_of}
 use Rattle.market_events.proofs.CopyLaws.{last_some-push}
 use Rattle.market_events.proofs.ListLaws.{and_from}
 use Rattle.market_events.proofs.PaymentLaws.{limit_of-same, limit_of-card, spent-same, spent-confirmed, spent-failed, answers-payment}
-use Rattle.market.specs.Acts.{Acts, card_limit, limit_by, paid_by, payment_table}
+use Rattle.market_history.specs.Acts.{Acts, card_limit, limit_by, paid_by, payment_table}
 use Rattle.market.specs.Agreeing.{PaymentsAgree}
 use Rattle.market.specs.Carrying.{IsFresh, most_made}
 use Rattle.market.proofs.Fresh.{same_number, fits_by, few_before, none_invoiced}

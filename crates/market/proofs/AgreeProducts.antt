@@ -14,9 +14,9 @@ use Rattle.market_events.specs.Steps.{Step}
 use Rattle.market_events.proofs.ProductLaws.{answers-product}
 use Rattle.market_events.proofs.ProductRuns.{version_of-look}
 use Rattle.market_events.proofs.StepLaws.{changes_made-push}
-use Rattle.market.specs.Acts.{Acts, product_table}
+use Rattle.market_history.specs.Acts.{Acts, product_table}
 use Rattle.market.specs.Agreeing.{ProductsAgree}
-use Rattle.market.specs.Sequential.{changes_in, with_changes}
+use Rattle.market_history.specs.Sequential.{changes_in, with_changes}
 
 module _ (steps : List Step) (acts : Acts) (agree : ProductsAgree steps acts) where
   table_same : product_sums steps ≡ product_table acts

@@ -29,10 +29,10 @@ use Rattle.market_events.proofs.SellerRuns.{invoice_lines-none}
 use Rattle.market_events.proofs.SellerSteps.{answers-seller}
 use Rattle.market_events.proofs.StepLaws.{any_taken-push, is_taken-same, is_taken-push, is_settled-push}
 use Rattle.market_events.proofs.StockRuns.{checkout_formed-lines, lines_formed-rise}
-use Rattle.market.specs.Acts.{Acts, lines_if, lines_of, seller_table}
+use Rattle.market_history.specs.Acts.{Acts, lines_if, lines_of, seller_table}
 use Rattle.market.specs.Agreeing.{SellersAgree}
 use Rattle.market.specs.Carrying.{IsFresh, most_made}
-use Rattle.market.specs.Sequential.{entries_unpaid, entries_whole, entry_delivered}
+use Rattle.market_history.specs.Sequential.{entries_unpaid, entries_whole, entry_delivered}
 use Rattle.market.proofs.Checkouts.{lines-whole, lines-unpaid, is_line_in, line_among, all_weaker}
 use Rattle.market.proofs.Fresh.{same_number, fits_by, few_before, few_after_one, few_after_two, none_invoiced, none_settled, none_shipped}
 use Rattle.market.proofs.LineKeys.{with_own_keys}

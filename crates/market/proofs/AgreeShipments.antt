@@ -24,7 +24,7 @@ use Rattle.market_events.proofs.PackageLaws.{delivered_of-formed}
 use Rattle.market_events.proofs.ShipmentLaws.{packages-push, packages-same, items_made-push, items_made-same, answers-shipment, deliver_rows-items, goes_with}
 use Rattle.market_events.proofs.ShipmentRuns.{ShipmentRun-of}
 use Rattle.market_events.proofs.StockRuns.{checkout_formed-lines, lines_formed-rise}
-use Rattle.market.specs.Acts.{Acts, packages_for, packages_by, waiting_by, shipment_table}
+use Rattle.market_history.specs.Acts.{Acts, packages_for, packages_by, waiting_by, shipment_table}
 use Rattle.market.specs.Agreeing.{ShipmentsAgree}
 use Rattle.market.specs.Carrying.{IsFresh, most_made}
 use Rattle.market.proofs.Checkouts.{is_line_in}

@@ -33,10 +33,10 @@ use Rattle.market_events.proofs.StepLaws.{changes_taken-same, changes_taken-push
 use Rattle.market_events.proofs.StockLaws.{reservations_of, reservations-push, reservations-same, pieces_under, stocked-push, stocked-push-other, sold-push-same, sold-push-reserved, sold-push-confirmed}
 use Rattle.market_events.proofs.StockRuns.{answers-stock, unasked-none}
 use Rattle.market_events.proofs.ReservationLaws.{sum-none}
-use Rattle.market.specs.Acts.{Acts, StockAct, pieces_stocked, pieces_sold, on_hand_by, stock_table}
+use Rattle.market_history.specs.Acts.{Acts, StockAct, pieces_stocked, pieces_sold, on_hand_by, stock_table}
 use Rattle.market.specs.Agreeing.{StocksAgree}
 use Rattle.market.specs.Carrying.{IsFresh, most_made}
-use Rattle.market.specs.Sequential.{with_stocked}
+use Rattle.market_history.specs.Sequential.{with_stocked}
 use Rattle.market.proofs.Checkouts.{all_weaker}
 use Rattle.market.proofs.Fresh.{same_number, fits_by, few_before, few_after_one, none_reserved, none_settled, none_confirmed}
 

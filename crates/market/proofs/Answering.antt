@@ -9,8 +9,9 @@ use Rattle.market.specs.declared.lanes.Kept.{Kept}
 use Rattle.market.specs.Lanes.{kept_at, count_in_lane}
 use Rattle.market.specs.Once.{has_id_of, count_in_lane_of, kept_of}
 use Rattle.market.specs.Output.{most_kept}
-use Rattle.market.specs.Acts.{Acts}
-use Rattle.market.specs.Sequential.{sequential_reply, sequential_step, replies_after, acts_after}
+use Rattle.market_history.specs.Acts.{Acts}
+use Rattle.market_history.specs.Sequential.{sequential_reply, sequential_step, acts_after}
+use Rattle.market.specs.Replies.{replies_after}
 use Rattle.market.proofs.Kept.{kept_count}
 
 -- the replies and the acts with one request more

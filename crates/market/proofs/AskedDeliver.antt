@@ -17,10 +17,10 @@ use Rattle.market_events.specs.Services.{Role, items_apart}
 use Rattle.market_events.specs.Shipments.{deliver_rows, delivered_of, oldest_of}
 use Rattle.market_events.specs.Steps.{Sending, told}
 use Rattle.market_events.proofs.OrderRuns.{is_item_for}
-use Rattle.market.specs.Acts.{Acts, waiting_by}
+use Rattle.market_history.specs.Acts.{Acts, waiting_by}
 use Rattle.market.specs.Agreeing.{HasTables}
 use Rattle.market.specs.Carrying.{Taken, AreRuns, IsNew, IsTrace, with_request, request_fits, request_answers, link_asked, most_made}
-use Rattle.market.specs.Sequential.{reply_in, rows_for, with_items, entry_delivered}
+use Rattle.market_history.specs.Sequential.{reply_in, rows_for, with_items, entry_delivered}
 use Rattle.market.proofs.AgreeCustomers as customers
 use Rattle.market.proofs.AgreeOrders as orders
 use Rattle.market.proofs.AgreeSellers as sellers

@@ -7,11 +7,11 @@ use Rattle.market_events.specs.declared.requests.Ask.TheVariants as ask
 use Rattle.market_events.specs.declared.requests.Request.{Request}
 use Rattle.market_events.specs.Formed.{body_formed}
 use Rattle.market_events.proofs.FormedLaws.{IsBody-body_formed}
-use Rattle.market.specs.Acts.{Acts}
+use Rattle.market_history.specs.Acts.{Acts}
 use Rattle.market_events.specs.WellFormed.{IsRequest}
 use Rattle.market.specs.Agreeing.{HasTables, IsAnswered}
 use Rattle.market.specs.Carrying.{Taken, AreRuns, IsNew}
-use Rattle.market.specs.Sequential.{reply_to_ask, acts_asked}
+use Rattle.market_history.specs.Sequential.{reply_to_ask, acts_asked}
 use Rattle.market.proofs.AskedDeliver.{ends_deliver}
 use Rattle.market.proofs.AskedOthers.{ends_view, ends_line, ends_remove, ends_stock, ends_level, ends_order, ends_card, ends_customer, ends_dashboard}
 use Rattle.market.proofs.AskedProducts.{ends_create, ends_price, ends_delete}

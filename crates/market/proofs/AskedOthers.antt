@@ -7,10 +7,10 @@ use Rattle.market_events.specs.declared.requests.Ask.TheVariants as ask
 use Rattle.market_events.specs.Copies.{copy_of}
 use Rattle.market_events.specs.Links.{customer_node, seller_node, payment_node}
 use Rattle.market_events.specs.Steps.{told}
-use Rattle.market.specs.Acts.{Acts, basket_by, on_hand_by, status_by, total_by}
+use Rattle.market_history.specs.Acts.{Acts, basket_by, on_hand_by, status_by, total_by}
 use Rattle.market.specs.Agreeing.{HasTables}
 use Rattle.market.specs.Carrying.{Taken, with_request, request_fits, request_answers}
-use Rattle.market.specs.Sequential.{rows_for, reply_in, acts_asked}
+use Rattle.market_history.specs.Sequential.{rows_for, reply_in, acts_asked}
 use Rattle.market.proofs.AgreeCarts.{carts_answer, carts_viewed, carts_lined, carts_removed}
 use Rattle.market.proofs.AgreeCustomers.{customers_answer, customers_asked}
 use Rattle.market.proofs.AgreeOrders.{orders_answer, orders_asked}

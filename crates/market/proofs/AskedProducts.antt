@@ -15,10 +15,10 @@ use Rattle.market_events.specs.Services.{Role, answers, fits}
 use Rattle.market_events.specs.Steps.{Sending, told}
 use Rattle.market_events.proofs.ListLaws.{and_both}
 use Rattle.market_events.proofs.MadeLaws.{are_formed, answers-formed}
-use Rattle.market.specs.Acts.{Acts, product_table}
+use Rattle.market_history.specs.Acts.{Acts, product_table}
 use Rattle.market.specs.Agreeing.{HasTables}
 use Rattle.market.specs.Carrying.{Taken, AreRuns, IsNew, IsTrace, with_taken, with_request, all_passed, request_fits, request_answers, role_asked, link_asked, most_made}
-use Rattle.market.specs.Sequential.{changes_in, with_changes, reply_in}
+use Rattle.market_history.specs.Sequential.{changes_in, with_changes, reply_in}
 use Rattle.market.proofs.AgreeCarts as carts
 use Rattle.market.proofs.AgreeProducts.{products_answer, versions_agree, products_asked}
 use Rattle.market.proofs.AgreeStocks as stocks

@@ -12,7 +12,7 @@ use Rattle.market_events.proofs.BasketLaws.{put_all-find, put_all-sorted}
 use Rattle.market_events.proofs.CopyLaws.{last_some-push}
 use Rattle.market_events.proofs.ListLaws.{or_right}
 use Rattle.market_events.proofs.SameLaws.{same_key-swap}
-use Rattle.market.specs.Acts.{BasketAct, line_left, line_at, act_key, basket_by}
+use Rattle.market_history.specs.Acts.{BasketAct, line_left, line_at, act_key, basket_by}
 
 -- the last act of a customer and a product
 pub line_at-left : (acts : List BasketAct) (c : ℕ) (k : ProductKey) (left : Option Held) (customer : ℕ) (key : ProductKey)

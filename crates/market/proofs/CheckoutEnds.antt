@@ -23,10 +23,10 @@ use Rattle.market_events.specs.WellFormed.{total_of, total_max}
 use Rattle.market_events.proofs.ListLaws.{and_both, and_from}
 use Rattle.market_events.proofs.MadeLaws.{are_formed, answers-formed}
 use Rattle.market_events.proofs.TotalLaws.{lines_formed-total}
-use Rattle.market.specs.Acts.{Acts, basket_by, limit_by, paid_by, on_hand_by, stock_table}
+use Rattle.market_history.specs.Acts.{Acts, basket_by, limit_by, paid_by, on_hand_by, stock_table}
 use Rattle.market.specs.Agreeing.{HasTables}
 use Rattle.market.specs.Carrying.{Taken, AreRuns, IsNew, request_fits, request_answers, link_asked}
-use Rattle.market.specs.Sequential.{Verdict, lines_at, first_short, verdict, verdict_of_basket, verdict_of_stock, verdict_of_card, reply_to_verdict, with_checkout}
+use Rattle.market_history.specs.Sequential.{Verdict, lines_at, first_short, verdict, verdict_of_basket, verdict_of_stock, verdict_of_card, reply_to_verdict, with_checkout}
 use Rattle.market.proofs.AgreeCarts.{carts_answer}
 use Rattle.market.proofs.AgreePayments as payments
 use Rattle.market.proofs.AgreeStocks as stocks

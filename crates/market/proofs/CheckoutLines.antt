@@ -13,7 +13,7 @@ use Rattle.market_events.specs.Looks.{is_live}
 use Rattle.market_events.specs.Services.{is_known}
 use Rattle.market_events.specs.Stocks.{StockSums, line_refusal, first_some}
 use Rattle.market_events.proofs.ListLaws.{and_both}
-use Rattle.market.specs.Sequential.{first_short}
+use Rattle.market_history.specs.Sequential.{first_short}
 use Rattle.market.proofs.Checkouts.{all_weaker}
 
 -- each line's product is live

@@ -18,10 +18,10 @@ use Rattle.market_events.specs.Links.{cart_node}
 use Rattle.market_events.specs.Services.{Role, answers, is_known}
 use Rattle.market_events.specs.Steps.{Sending, told}
 use Rattle.market_events.specs.Stocks.{Reservation}
-use Rattle.market.specs.Acts.{Acts}
+use Rattle.market_history.specs.Acts.{Acts}
 use Rattle.market.specs.Agreeing.{HasTables}
 use Rattle.market.specs.Carrying.{Taken, AreRuns, IsNew, IsTrace, with_request, request_fits, request_answers, link_asked, most_made}
-use Rattle.market.specs.Sequential.{Verdict, with_checkout}
+use Rattle.market_history.specs.Sequential.{Verdict, with_checkout}
 use Rattle.market.proofs.AgreeCarts.{carts_stopped, carts_refused, short_fits, short_made}
 use Rattle.market.proofs.AgreeStocks as stocks
 use Rattle.market.proofs.Ends.{Ends, ends_told}
@@ -35,18 +35,23 @@ module _ (taken : Taken) (acts : Acts) (runs : AreRuns taken) (tables : HasTable
   abbrev checkout : Reservation
   checkout = record { checkout = id; customer = customer; lines = lines }
 
+  abbrev stopped : UndoneRule → Acts
+  stopped rule = with_checkout acts checkout (Verdict.Stopped rule)
+
   -- it is answered at the cart
-  pub ends_stopped : (rule : UndoneRule) → request_fits taken r ≡ true → request_answers taken r ≡ told cart_node id (reply.Undone rule) ∷ [] → Ends taken r (reply.Undone rule) (with_checkout acts checkout (Verdict.Stopped rule))
-  ends_stopped rule fit made = ends_told taken r cart_node (reply.Undone rule) acts fit made (record {
-    products = tables.products;
-    carts = carts_stopped taken.carts acts tables.carts (link_asked r) id customer rule made;
-    stocks = tables.stocks;
-    orders = tables.orders;
-    payments = tables.payments;
-    shipments = tables.shipments;
-    customers = tables.customers;
-    sellers = tables.sellers;
-  })
+  pub ends_stopped : (rule : UndoneRule) → request_fits taken r ≡ true → request_answers taken r ≡ told cart_node id (reply.Undone rule) ∷ [] → Ends taken r (reply.Undone rule) (stopped rule)
+  ends_stopped rule fit made =
+      let carts = carts_stopped taken.carts acts tables.carts (link_asked r) id customer rule made in
+      ends_told taken r cart_node (reply.Undone rule) (stopped rule) fit made (record {
+        products = products_hold taken.products acts (stopped rule) tables.products refl;
+        carts = record { changes = carts.changes; baskets = carts.baskets };
+        stocks = record { changes = tables.stocks.changes; stocked = tables.stocks.stocked; sold = tables.stocks.sold; settled = tables.stocks.settled };
+        orders = orders_hold taken.orders acts (stopped rule) tables.orders refl refl refl;
+        payments = payments_hold taken.payments acts (stopped rule) tables.payments refl refl;
+        shipments = shipments_hold taken.shipments acts (stopped rule) tables.shipments refl refl;
+        customers = customers_hold taken.customers acts (stopped rule) tables.customers refl refl refl;
+        sellers = sellers_hold taken.sellers acts (stopped rule) tables.sellers refl refl refl (λ s. refl);
+      })
 
   -- stock refuses it
   module _ (key : ProductKey) (new : IsNew taken r) (fit : request_fits taken r ≡ true) (sent : request_answers taken r ≡ (Service 2, body.Reserve id customer lines) ∷ [])

@@ -22,10 +22,10 @@ use Rattle.market_events.specs.Steps.{Sending, told}
 use Rattle.market_events.specs.Stocks.{Reservation}
 use Rattle.market_events.specs.WellFormed.{total_of}
 use Rattle.market_events.proofs.ListLaws.{and_both, and_from}
-use Rattle.market.specs.Acts.{Acts}
+use Rattle.market_history.specs.Acts.{Acts}
 use Rattle.market.specs.Agreeing.{HasTables}
 use Rattle.market.specs.Carrying.{Taken, AreRuns, IsNew, IsTrace, with_request, request_fits, request_answers, link_asked, most_made}
-use Rattle.market.specs.Sequential.{Verdict, with_checkout}
+use Rattle.market_history.specs.Sequential.{Verdict, with_checkout}
 use Rattle.market.proofs.AgreeCarts.{ended_fits, ended_made, carts_answered}
 use Rattle.market.proofs.AgreeCustomers as customers
 use Rattle.market.proofs.AgreeOrders as orders

@@ -14,7 +14,7 @@ use Rattle.market_events.specs.Stocks.{Reservation}
 use Rattle.market_events.proofs.ListLaws.{and_both, list_any-push, flat_map-push, or_parts}
 use Rattle.market_events.proofs.ReservationLaws.{lines-none}
 use Rattle.market_events.proofs.SameLaws.{same_id-true}
-use Rattle.market.specs.Acts.{lines_if, lines_of, cost_if}
+use Rattle.market_history.specs.Acts.{lines_if, lines_of, cost_if}
 
 module _ (whole unpaid : List Reservation) (r : Reservation) (id : RequestId) where
   -- a checkout is among them where it was, or is this one

@@ -7,10 +7,10 @@ use Rattle.market_events.specs.declared.requests.Request.{Request}
 use Rattle.market_events.specs.Requests.{same_id}
 use Rattle.market_events.specs.Services.{Role}
 use Rattle.market_events.specs.Steps.{Sending, told}
-use Rattle.market.specs.Acts.{Acts}
+use Rattle.market_history.specs.Acts.{Acts}
 use Rattle.market.specs.Agreeing.{HasTables, IsAnswered}
 use Rattle.market.specs.Carrying.{Taken, steps_of, link_asked, role_asked, with_request, request_fits, request_answers, IsTrace, all_passed, IsFresh, most_made}
-use Rattle.market.specs.Sequential.{reply_told, reply_in, sequential_reply, sequential_step}
+use Rattle.market_history.specs.Sequential.{reply_told, reply_in, sequential_reply, sequential_step}
 use Rattle.market.proofs.Tracing.{then_told, fresh_with, any_concerns, fresh_after}
 
 pub record Ends (taken : Taken) (r : Request) (reply : Reply) (after : Acts) : Type 0 where

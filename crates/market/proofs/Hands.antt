@@ -7,8 +7,9 @@ use Rattle.market.specs.declared.hand.Hand.{Hand}
 use Rattle.market.specs.Lanes.{kept_at, count_in_lane}
 use Rattle.market.specs.Once.{has_id_of, count_in_lane_of, kept_of}
 use Rattle.market.specs.Output.{most_kept}
-use Rattle.market.specs.Acts.{no_acts}
-use Rattle.market.specs.Sequential.{acts_after, sequential_reply, sequential_replies}
+use Rattle.market_history.specs.Acts.{no_acts}
+use Rattle.market_history.specs.Sequential.{acts_after, sequential_reply}
+use Rattle.market.specs.Replies.{sequential_replies}
 use Rattle.market.specs.Hand.{Stands}
 use Rattle.market.specs.Services.{Serves, IsNext}
 use Rattle.market.proofs.Kept.{kept_of-push}

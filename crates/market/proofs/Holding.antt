@@ -3,7 +3,7 @@ use Rattle.std.proofs.Common.{◌≡◌, ℕ, ◌+◌, ◌++◌, sum_by, ap, sym
 use Rattle.std.specs.List.{list_any}
 use Rattle.market_events.specs.Orders.{is_of}
 use Rattle.market_events.specs.Steps.{Step}
-use Rattle.market.specs.Acts.{Acts, line_at, pieces_stocked, pieces_sold, lines_of, cost_if, limit_by, paid_by, packages_by, count_for}
+use Rattle.market_history.specs.Acts.{Acts, line_at, pieces_stocked, pieces_sold, lines_of, cost_if, limit_by, paid_by, packages_by, count_for}
 use Rattle.market.specs.Agreeing.{ProductsAgree, CartsAgree, StocksAgree, OrdersAgree, PaymentsAgree, ShipmentsAgree, CustomersAgree, SellersAgree}
 
 module _ (steps : List Step) (acts after : Acts) where

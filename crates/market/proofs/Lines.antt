@@ -15,8 +15,9 @@ use Rattle.market.specs.Hand.{Stands, kept_replies}
 use Rattle.market.specs.Lanes.{kept_at}
 use Rattle.market.specs.Once.{has_id_of, count_in_lane_of, kept_of, answer_of, answer_for}
 use Rattle.market.specs.Output.{most_kept, answer_line, id_text, count_lines, whole_in, undone_in, run_output}
-use Rattle.market.specs.Acts.{no_acts}
-use Rattle.market.specs.Sequential.{acts_after, sequential_reply, sequential_replies}
+use Rattle.market_history.specs.Acts.{no_acts}
+use Rattle.market_history.specs.Sequential.{acts_after, sequential_reply}
+use Rattle.market.specs.Replies.{sequential_replies}
 use Rattle.market.proofs.Kept.{kept_of-push, decided, count_in_lane_of-same, same_id-itself}
 use Rattle.market.proofs.Answering.{replies_after-push, is_some-kept_at}
 

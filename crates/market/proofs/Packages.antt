@@ -15,7 +15,7 @@ use Rattle.market_events.proofs.ListLaws.{and_both, and_from, or_left, or_right,
 use Rattle.market_events.proofs.OrderRuns.{is_item_for}
 use Rattle.market_events.proofs.SameLaws.{same_id-self, same_key-self, same_key-true, same_key-swap}
 use Rattle.market_events.proofs.StockRuns.{key_below-apart, key_below-trans, keys_rise-tail}
-use Rattle.market.specs.Acts.{packages_for, packages_by}
+use Rattle.market_history.specs.Acts.{packages_for, packages_by}
 use Rattle.market.proofs.Checkouts.{is_line_in, all_weaker}
 
 -- items and more of them

@@ -8,7 +8,7 @@ use Rattle.market_events.specs.Copies.{last_some}
 use Rattle.market_events.specs.Steps.{Sending}
 use Rattle.market.specs.declared.services.Services.{Services}
 use Rattle.market.specs.Carrying.{Taken, CanPass, made_of, passed, IsTrace, all_passed}
-use Rattle.market.specs.Sequential.{reply_told}
+use Rattle.market_history.specs.Sequential.{reply_told}
 use Rattle.market.specs.Services.{StandFor}
 use Rattle.market.proofs.Weights.{weights, waiting_lighter}
 

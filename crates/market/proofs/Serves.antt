@@ -18,11 +18,11 @@ use Rattle.market_events.proofs.FormedLaws.{body_formed-IsBody, reply_decides}
 use Rattle.market_events.proofs.ListLaws.{and_both, and_from, or_parts}
 use Rattle.market_events.proofs.MadeLaws.{are_formed, answers-formed}
 use Rattle.market.specs.declared.services.Services.{Services}
-use Rattle.market.specs.Acts.{Acts, no_acts}
+use Rattle.market_history.specs.Acts.{Acts, no_acts}
 use Rattle.market.specs.Agreeing.{HasTables, IsAnswered}
 use Rattle.market.specs.Carrying.{Taken, steps_of, role_told, role_asked, link_asked, CanPass, made_of, passed, IsTrace, all_passed, AreRuns, IsNew, most_made, with_request, request_answers}
 use Rattle.market.specs.Once.{has_id_of}
-use Rattle.market.specs.Sequential.{acts_after, reply_told, sequential_reply}
+use Rattle.market_history.specs.Sequential.{acts_after, reply_told, sequential_reply}
 use Rattle.market.specs.Services.{StandFor, Serves, IsNext}
 use Rattle.market.proofs.Answering.{acts_after-push}
 use Rattle.market.proofs.AskedKinds.{is_answered}

@@ -21,7 +21,7 @@ use Rattle.market_events.specs.Services.{change_fits, change_is_due}
 use Rattle.market_events.specs.Steps.{Sending, told}
 use Rattle.market_events.specs.Stocks.{stock_rows, level_rows}
 use Rattle.market_events.specs.WellFormed.{most_lines, pieces_max}
-use Rattle.market.specs.Acts.{Acts}
+use Rattle.market_history.specs.Acts.{Acts}
 
 -- a service tells one reply
 pub record TellsReply (id : RequestId) (rows : List Sending) : Type 0 where

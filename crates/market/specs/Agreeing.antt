@@ -15,9 +15,9 @@ use Rattle.market_events.specs.Services.{Role, items_apart}
 use Rattle.market_events.specs.Shipments.{packages, items_made}
 use Rattle.market_events.specs.Steps.{Step, Sending, taken_bodies}
 use Rattle.market_events.specs.Stocks.{Reservation, reservations, fails, is_settled, sold, stocked}
-use Rattle.market.specs.Acts.{Acts, line_at, pieces_stocked, pieces_sold, lines_of, total_by, limit_by, paid_by, packages_by, count_for}
+use Rattle.market_history.specs.Acts.{Acts, line_at, pieces_stocked, pieces_sold, lines_of, total_by, limit_by, paid_by, packages_by, count_for}
 use Rattle.market.specs.Carrying.{Taken, IsTrace, IsFresh, most_made, steps_of, all_passed, with_request, request_fits, request_answers}
-use Rattle.market.specs.Sequential.{reply_told, sequential_reply, sequential_step}
+use Rattle.market_history.specs.Sequential.{reply_told, sequential_reply, sequential_step}
 
 pub record ProductsAgree (steps : List Step) (acts : Acts) : Type 0 where
   pub changes : changes_made steps ≡ acts.changes

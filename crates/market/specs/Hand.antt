@@ -5,7 +5,7 @@ use Rattle.market.specs.declared.lanes.Kept.{Kept}
 use Rattle.market.specs.declared.hand.Hand.{Hand}
 use Rattle.market.specs.Once.{kept_of}
 use Rattle.market.specs.Output.{most_kept}
-use Rattle.market.specs.Sequential.{sequential_replies}
+use Rattle.market.specs.Replies.{sequential_replies}
 use Rattle.market.specs.Services.{Serves}
 
 -- what is kept of the given requests, with the replies of the sequential market

@@ -1,6 +1,5 @@
 pub mod Once
-pub mod Acts
-pub mod Sequential
+pub mod Replies
 pub mod Carrying
 pub mod Agreeing
 pub mod Input

@@ -9,7 +9,7 @@ use Rattle.market_events.specs.declared.replies.Reply.TheVariants as reply
 use Rattle.market_events.specs.Texts.{text_of_reply}
 use Rattle.market.specs.declared.lanes.Kept.{Kept}
 use Rattle.market.specs.Once.{kept_of, answer_for}
-use Rattle.market.specs.Sequential.{sequential_replies}
+use Rattle.market.specs.Replies.{sequential_replies}
 
 -- the text of an id and the space behind it
 abbrev pub id_text : RequestId → List ℕ

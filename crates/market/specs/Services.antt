@@ -12,11 +12,11 @@ use Rattle.seller_service.specs.Kept as seller
 use Rattle.shipment_service.specs.Holding as shipment
 use Rattle.stock_service.specs.Holding as stock
 use Rattle.market.specs.declared.services.Services.{Services}
-use Rattle.market.specs.Acts.{no_acts}
+use Rattle.market_history.specs.Acts.{no_acts}
 use Rattle.market.specs.Agreeing.{HasTables}
 use Rattle.market.specs.Carrying.{Taken, steps_of, IsFresh, most_made}
 use Rattle.market.specs.Once.{has_id_of}
-use Rattle.market.specs.Sequential.{acts_after}
+use Rattle.market_history.specs.Sequential.{acts_after}
 
 -- the services stand for these steps
 pub record StandFor (services : Services) (taken : Taken) : Type 0 where

@@ -3,7 +3,7 @@
 ghost use Rattle.std.specs.Prelude.{◌≡◌, ℕ, List};
 ghost use Rattle.market_events.specs.declared.requests.Request.{Request};
 ghost use Rattle.market_events.specs.WellFormed.{IsRequest};
-ghost use Rattle.market.specs.Acts.{Acts};
+ghost use Rattle.market_history.specs.Acts.{Acts};
 ghost use Rattle.market.specs.Agreeing.{HasTables, IsAnswered};
 ghost use Rattle.market.specs.Carrying.{Taken, AreRuns, IsNew};
 ghost use Rattle.market.specs.Once.{kept_of, kept_by, of_lane};

@@ -7,9 +7,9 @@ ghost use Rattle.market_events.specs.declared.requests.Request.{Request};
 ghost use Rattle.market_events.specs.Copies.{last_some};
 ghost use Rattle.market_events.specs.Services.{answers, fits};
 ghost use Rattle.market_events.specs.WellFormed.{IsRequest, IsReply};
-ghost use Rattle.market.specs.Acts.{no_acts};
+ghost use Rattle.market_history.specs.Acts.{no_acts};
 ghost use Rattle.market.specs.Carrying.{Taken, steps_of, role_at, with_taken, CanPass, made_of, passed, IsTrace, all_passed, request_fits, request_answers, with_request};
-ghost use Rattle.market.specs.Sequential.{acts_after, sequential_reply, reply_told};
+ghost use Rattle.market_history.specs.Sequential.{acts_after, sequential_reply, reply_told};
 ghost use Rattle.market.specs.Places.{role_of};
 ghost use Rattle.market.specs.Services.{StandFor, Serves, IsNext};
 

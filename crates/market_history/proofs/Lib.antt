@@ -2,4 +2,15 @@ pub mod EntryLaws
 pub mod SentLaws
 pub mod StampLaws
 pub mod CausalityLaws
-pub mod Examples
+pub mod GrowLaws
+pub mod GrowSent
+pub mod CoreEntries
+pub mod CoreRequests
+pub mod CoreGrow
+pub mod HistoryLaws
+pub mod HistoryModel
+pub mod ExamplesLinks
+pub mod ExamplesCreate
+pub mod ExamplesCausal
+pub mod ExamplesLane
+pub mod ExamplesBase

@@ -3,9 +3,9 @@ use Rattle.std.proofs.Math.Logic.{∥∥₁_elim}
 use Rattle.std.proofs.lemmas.Bool.{false≢true}
 use Rattle.market_events.specs.WellFormed.{IsReply}
 use Rattle.market_events.specs.declared.replies.Reply.{Reply}
-use Rattle.market.specs.Acts.{no_acts}
+use Rattle.market_history.specs.Acts.{no_acts}
 use Rattle.market.specs.Carrying.{IsTrace, with_request}
-use Rattle.market.specs.Sequential.{acts_after, sequential_reply}
+use Rattle.market_history.specs.Sequential.{acts_after, sequential_reply}
 use Rattle.market.proofs.Serves.{next_answered, next_told, next_reply_formed, serves_more, formed_reply, formed_is}
 use Rattle.market.proofs.services.Services.ask.Goals as goal
 

@@ -29,8 +29,7 @@ use Rattle.market_events.specs.Shipments.{delivered_of, shipment_asked}
 use Rattle.market_events.specs.Steps.{Sending, body_on}
 use Rattle.market_events.specs.Stocks.{Reservation, stock_asked}
 use Rattle.market_events.specs.WellFormed.{total_of}
-use Rattle.market.specs.declared.lanes.Kept.{Kept}
-use Rattle.market.specs.Acts.{Acts, BasketAct, StockAct, no_acts, basket_by, lines_of, limit_by, paid_by, waiting_by, on_hand_by, product_table, cart_table, stock_table, order_table, payment_table, shipment_table, customer_table, seller_table}
+use Rattle.market_history.specs.Acts.{Acts, BasketAct, StockAct, no_acts, basket_by, lines_of, limit_by, paid_by, waiting_by, on_hand_by, product_table, cart_table, stock_table, order_table, payment_table, shipment_table, customer_table, seller_table}
 
 -- what a request other than a checkout is answered by its service's table
 abbrev pub rows_for : Acts → RequestId → Ask → List Sending
@@ -131,10 +130,14 @@ abbrev pub entries_whole : RequestId → List PricedLine → ℕ → List Seller
 entries_whole id lines seller = marked seller id status.Invoiced lines ++ (marked seller id status.Paid lines ++ marked seller id status.Shipped lines)
 
 abbrev pub with_checkout : Acts → Reservation → Verdict → Acts
-with_checkout acts r (Stopped rule) = acts
-with_checkout acts r (Short key) = record acts { baskets = acts.baskets ++ BasketAct.Emptied r.customer ∷ [] }
+with_checkout acts r (Stopped rule) = record acts { undone = acts.undone ++ (r.checkout, rule) ∷ [] }
+with_checkout acts r (Short key) = record acts {
+  baskets = acts.baskets ++ BasketAct.Emptied r.customer ∷ [];
+  undone = acts.undone ++ (r.checkout, undone.Short key) ∷ [];
+}
 with_checkout acts r (Unpaid rule) = record acts {
   baskets = acts.baskets ++ BasketAct.Emptied r.customer ∷ [];
+  undone = acts.undone ++ (r.checkout, undone_by_payment rule) ∷ [];
   unpaid = acts.unpaid ++ r ∷ [];
   entries = λ seller. acts.entries seller ++ entries_unpaid r.checkout r.lines seller;
 }
@@ -178,16 +181,7 @@ acts_asked acts id (ask.Dashboard seller) = acts
 abbrev pub sequential_step : Acts → Request → Acts
 sequential_step acts r = acts_asked acts r.id r.ask
 
--- requests with their replies, where they are answered one after the other after these acts
-abbrev pub replies_after : Acts → List Request → List Kept
-replies_after acts [] = []
-replies_after acts (r ∷ rs) = record { request = r; reply = sequential_reply acts r } ∷ replies_after (sequential_step acts r) rs
-
--- the acts that such requests leave
+-- the acts that requests leave, where they are answered one after the other after these acts
 abbrev pub acts_after : Acts → List Request → Acts
 acts_after acts [] = acts
 acts_after acts (r ∷ rs) = acts_after (sequential_step acts r) rs
-
--- requests with their replies from the empty market on
-abbrev pub sequential_replies : List Request → List Kept
-sequential_replies requests = replies_after no_acts requests

@@ -7,6 +7,7 @@ use Rattle.market_events.specs.declared.bodies.Item.{Item}
 use Rattle.market_events.specs.declared.bodies.PricedLine.{PricedLine}
 use Rattle.market_events.specs.declared.replies.OrderStatus.{OrderStatus}
 use Rattle.market_events.specs.declared.replies.OrderStatus.TheVariants as status
+use Rattle.market_events.specs.declared.replies.UndoneRule.{UndoneRule}
 use Rattle.market_events.specs.Carts.{Held, CartSums, joined, with_key}
 use Rattle.market_events.specs.Copies.{ProductChange, copy_of, version_of, last_some}
 use Rattle.market_events.specs.Customers.{CustomerSums}
@@ -36,19 +37,21 @@ pub record CardAct : Type 0 where
   pub limit : ℕ
 
 -- what was accepted: changes of products, lines set and removed and baskets sent on, pieces stocked, cards, the checkouts
--- that are whole and those that were not paid, the items delivered, and the changes of each seller's entries
+-- that are whole, those that are undone with their rules, those of them that were not paid, the items delivered, and the
+-- changes of each seller's entries
 pub record Acts : Type 0 where
   pub changes : List ProductChange
   pub baskets : List BasketAct
   pub stocked : List StockAct
   pub cards : List CardAct
   pub whole : List Reservation
+  pub undone : List (RequestId × UndoneRule)
   pub unpaid : List Reservation
   pub items : List Item
   pub entries : ℕ → List SellerChange
 
 abbrev pub no_acts : Acts
-no_acts = record { changes = []; baskets = []; stocked = []; cards = []; whole = []; unpaid = []; items = []; entries = λ seller. [] }
+no_acts = record { changes = []; baskets = []; stocked = []; cards = []; whole = []; undone = []; unpaid = []; items = []; entries = λ seller. [] }
 
 -- what the act leaves of this customer's line of this product
 abbrev pub line_left : ℕ → ProductKey → BasketAct → Option (Option Held)

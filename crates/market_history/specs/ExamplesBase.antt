@@ -1,0 +1,94 @@
+-- A checkout that is whole: a product is created and stocked, a card is set, and two pieces of it are checked out.
+use Rattle.std.specs.Prelude.{◌≡◌, ℕ, List, [], ◌∷◌, ◌++◌, Some, None}
+use Rattle.market_events.specs.declared.bodies.Item.{Item}
+use Rattle.market_events.specs.declared.bodies.PricedLine.{PricedLine}
+use Rattle.market_events.specs.declared.changes.Change.TheVariants.{Created}
+use Rattle.market_events.specs.declared.changes.Look.TheVariants.{Live}
+use Rattle.market_events.specs.declared.links.Link.{Link}
+use Rattle.market_events.specs.declared.links.Link.TheVariants.{Service, Asked, Told}
+use Rattle.market_events.specs.declared.replies.EntryRow.{EntryRow}
+use Rattle.market_events.specs.declared.replies.OrderStatus.TheVariants as status
+use Rattle.market_events.specs.declared.replies.Reply.TheVariants as reply
+use Rattle.market_events.specs.declared.requests.Ask.TheVariants as ask
+use Rattle.market_events.specs.Stocks.{Reservation}
+use Rattle.market_history.specs.declared.schedule.Step.{Step}
+use Rattle.market_history.specs.declared.schedule.Summary.{Summary}
+use Rattle.market_history.specs.Acts.{Acts, BasketAct, StockAct, CardAct}
+use Rattle.market_history.specs.Book.{Tables, acts_of, tables_of, book}
+use Rattle.market_history.specs.Checkouts.{IsWhole, listed_reservations}
+use Rattle.market_history.specs.Examples.{mug, id, give, offer, create}
+use Rattle.market_history.specs.Histories.{Histories, no_histories}
+use Rattle.market_history.specs.Once.{reply_at}
+use Rattle.market_history.specs.Output.{counts_of}
+use Rattle.market_history.specs.Schedule.{play}
+
+-- a request that a service answers at once
+abbrev pub answered_by : ℕ → ℕ → ℕ → List Step
+answered_by service asked told = offer (Asked 7 service) asked ∷ offer (Told service 7) told ∷ []
+
+abbrev pub base_steps : List Step
+base_steps =
+    give 1 create ∷ offer (Asked 7 1) 1 ∷ offer (Service 1) 1 ∷ offer (Service 0) 1 ∷ offer (Told 1 7) 1
+    ∷ give 2 (ask.Stock mug 3) ∷ (answered_by 2 1 1 ++
+    give 3 (ask.Card 7 10000) ∷ (answered_by 4 1 1 ++
+    give 4 (ask.Line 7 mug 2 100) ∷ (answered_by 0 1 1 ++
+    give 5 (ask.Checkout 7) ∷ offer (Asked 7 0) 2
+    ∷ offer (Service 2) 1 ∷ offer (Service 4) 1 ∷ offer (Service 6) 1 ∷ offer (Service 5) 1
+    ∷ offer (Service 8) 1 ∷ offer (Service 11) 1 ∷ offer (Service 12) 1 ∷ offer (Service 9) 1 ∷ offer (Service 10) 1
+    ∷ offer (Service 14) 1 ∷ offer (Service 13) 1 ∷ offer (Service 7) 1 ∷ offer (Told 0 7) 2 ∷ [])))
+
+abbrev pub base : Histories
+base = play no_histories base_steps
+
+abbrev pub base_line : PricedLine
+base_line = record { key = mug; quantity = 2; price = 1000; freight = 50; voucher = 100 }
+
+abbrev pub base_checkout : Reservation
+base_checkout = record { checkout = id 5; customer = 7; lines = base_line ∷ [] }
+
+abbrev pub base_item : Item
+base_item = record { checkout = id 5; customer = 7; key = mug }
+
+abbrev pub base_row : EntryRow
+base_row = record { checkout = id 5; product = 10; quantity = 2; amount = 1950; status = status.Shipped }
+
+-- what was accepted
+pub record HasBaseActs (acts : Acts) : Type 0 where
+  pub changes : acts.changes ≡ record { key = mug; version = 1; change = Created 1000 50 } ∷ []
+  pub baskets : acts.baskets ≡ BasketAct.Left 7 mug (Some (record { quantity = 2; voucher = 100 })) ∷ BasketAct.Emptied 7 ∷ []
+  pub stocked : acts.stocked ≡ record { key = mug; pieces = 3 } ∷ []
+  pub cards : acts.cards ≡ record { customer = 7; limit = 10000 } ∷ []
+  pub whole : acts.whole ≡ base_checkout ∷ []
+  pub undone : acts.undone ≡ []
+  pub unpaid : acts.unpaid ≡ []
+  pub items : acts.items ≡ []
+
+-- the tables at the product, the checkout, the customer and the seller
+pub record HasBaseTables (t : Tables) : Type 0 where
+  pub look : t.look mug ≡ Live 1 1000 50
+  pub version : t.version mug ≡ 1
+  pub cart_copy : t.cart_copy mug ≡ Live 1 1000 50
+  pub stock_copy : t.stock_copy mug ≡ Live 1 1000 50
+  pub basket : t.basket 7 ≡ []
+  pub on_hand : t.on_hand mug ≡ 1
+  pub reserved : t.reserved mug ≡ 0
+  pub order_status : t.order_status (id 5) ≡ Some status.Shipped
+  pub order_total : t.order_total (id 5) ≡ 1950
+  pub limit : t.limit 7 ≡ Some 10000
+  pub spent : t.spent 7 ≡ 1950
+  pub packages : t.packages ≡ base_item ∷ []
+  pub open_packages : t.open_packages ≡ base_item ∷ []
+  pub confirmed : t.confirmed 7 ≡ 1
+  pub failed : t.failed 7 ≡ 0
+  pub delivered : t.delivered 7 ≡ 0
+  pub in_progress : t.in_progress 5 ≡ base_row ∷ []
+  pub point : t.point 5 ≡ 3
+
+pub record BaseExamples : Type 0 where
+  pub reply : reply_at base (id 5) ≡ Some (reply.Whole 1950)
+  pub whole : IsWhole base (id 5) 1950
+  pub acts : HasBaseActs (acts_of base)
+  pub tables : HasBaseTables (tables_of base)
+  pub book : HasBaseTables (book (acts_of base))
+  pub counts : counts_of base
+      ≡ record { requests = 5; whole = 1; undone = 0; outstanding = 0; confirmed = 1950; packages = 1; delivered = 0 }

@@ -1,0 +1,53 @@
+-- The histories after one request to create a product.
+use Rattle.std.specs.Prelude.{◌≡◌, ℕ, List, [], ◌∷◌, replicate}
+use Rattle.market_events.specs.declared.bodies.Body.TheVariants as body
+use Rattle.market_events.specs.declared.events.Event.{Event}
+use Rattle.market_events.specs.declared.events.Offer.TheVariants as offers
+use Rattle.market_events.specs.declared.links.Link.TheVariants.{Service, Asked, Told}
+use Rattle.market_events.specs.declared.replies.Reply.TheVariants as reply
+use Rattle.market_history.specs.declared.schedule.Give.TheVariants as gives
+use Rattle.market_history.specs.declared.schedule.Outcome.TheVariants as outcome
+use Rattle.market_history.specs.declared.schedule.Step.{Step}
+use Rattle.market_history.specs.Examples.{id, request, give, offer, event, given, taken, made, answered, create, created}
+use Rattle.market_history.specs.Histories.{Histories, no_histories}
+use Rattle.market_history.specs.Schedule.{outcomes, play, merged}
+
+-- counts of the first two service links, and 0 for the others
+abbrev pub past : ℕ → ℕ → List ℕ
+past zeroth first = zeroth ∷ first ∷ replicate 14 0
+
+-- lane 7 asks the product service
+abbrev pub asked : Event
+asked = event (Asked 7 1) 1 2 (past 0 0) (body.Asked (request 1 create))
+
+-- the product service tells stock first, then the cart, then the lane
+abbrev pub to_stock : Event
+to_stock = event (Service 1) 1 4 (past 0 0) created
+
+abbrev pub to_cart : Event
+to_cart = event (Service 0) 1 5 (past 0 1) created
+
+abbrev pub to_lane : Event
+to_lane = event (Told 1 7) 1 6 (past 1 1) (body.Told (id 1) (reply.Created 1))
+
+-- cart, product service, stock and lane 7 have entries
+abbrev pub after_create : Histories
+after_create =
+    (taken 6 to_cart ∷ [])
+    ∷ (taken 3 asked ∷ made to_stock ∷ made to_cart ∷ made to_lane ∷ [])
+    ∷ (taken 5 to_stock ∷ [])
+    ∷ [] ∷ [] ∷ [] ∷ [] ∷ [] ∷ [] ∷ [] ∷ [] ∷ [] ∷ [] ∷ [] ∷ []
+    ∷ (given 1 (request 1 create) ∷ made asked ∷ taken 7 to_lane ∷ answered 8 (id 1) (reply.Created 1) ∷ [])
+    ∷ [] ∷ [] ∷ [] ∷ [] ∷ [] ∷ [] ∷ [] ∷ [] ∷ []
+
+abbrev pub create_steps : List Step
+create_steps = give 1 create ∷ offer (Asked 7 1) 1 ∷ offer (Service 1) 1 ∷ offer (Service 0) 1 ∷ offer (Told 1 7) 1 ∷ []
+
+pub record CreateExamples : Type 0 where
+  -- the steps leave these histories
+  pub left : play no_histories create_steps ≡ after_create
+  pub outcomes : outcomes no_histories create_steps
+      ≡ outcome.Gave gives.Asked ∷ outcome.Offered offers.Take ∷ outcome.Offered offers.Take ∷ outcome.Offered offers.Take ∷ outcome.Offered offers.Take ∷ []
+  -- the schedule that they came by, and the histories that it leaves
+  pub schedule : merged after_create ≡ create_steps
+  pub replayed : play no_histories (merged after_create) ≡ after_create

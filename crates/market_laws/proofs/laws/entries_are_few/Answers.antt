@@ -1,0 +1,6 @@
+-- By the weights of the links.
+use Rattle.market_laws.proofs.FewLaws.{few}
+use Rattle.market_laws.proofs.laws.entries_are_few.Goals as goal
+
+pub returns : goal.returns
+returns c = few

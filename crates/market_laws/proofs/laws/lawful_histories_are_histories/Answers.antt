@@ -1,0 +1,6 @@
+-- Entry by entry.
+use Rattle.market_laws.proofs.ProperLaws.{histories_are}
+use Rattle.market_laws.proofs.laws.lawful_histories_are_histories.Goals as goal
+
+pub returns : goal.returns
+returns c = histories_are

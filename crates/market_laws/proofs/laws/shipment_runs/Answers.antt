@@ -1,0 +1,16 @@
+-- Each clause is a law of RunsShipment or of RunsApart.
+use Rattle.market_laws.proofs.RunsApart.{items-once}
+use Rattle.market_laws.proofs.RunsShipment.{shipments-14, deliveries-15, shipped-is, confirms-once, shipped-paid, delivered-shipped, delivered-paid}
+use Rattle.market_laws.proofs.laws.shipment_runs.Goals as goal
+
+pub returns : goal.returns
+returns c = record {
+  sellers_told = shipments-14;
+  customers_told = deliveries-15;
+  shipped = shipped-is;
+  paid_once = confirms-once;
+  shipped_for = shipped-paid;
+  delivered_once = items-once;
+  shipped_before = delivered-shipped;
+  paid_for = delivered-paid;
+}

@@ -1,0 +1,6 @@
+pub mod Grown
+pub mod Entries
+pub mod Runs
+pub mod Cuts
+pub mod Fitting
+pub mod Pasts

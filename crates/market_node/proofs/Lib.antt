@@ -1,0 +1,16 @@
+pub mod SlotLaws
+pub mod RaiseLaws
+pub mod PlaceLaws
+pub mod NoteLaws
+pub mod KeepLaws
+pub mod WaitLaws
+pub mod MadeLaws
+pub mod ServiceLaws
+pub mod LaneLaws
+pub mod ReadLaws
+pub mod KeptLaws
+pub mod EventLaws
+pub mod MakingLaws
+pub mod RecordLaws
+pub mod ReserveLaws
+pub mod TestLaws

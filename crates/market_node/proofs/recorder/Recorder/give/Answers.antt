@@ -1,0 +1,18 @@
+use Rattle.std.proofs.Common.{◌+◌, arith}
+use Rattle.market_events.specs.declared.events.What.TheVariants.{Given}
+use Rattle.market_node.proofs.NoteLaws.{HaveRoom-less}
+use Rattle.market_node.proofs.RecordLaws.{at_most-push, entry_at, notes_given}
+use Rattle.market_node.proofs.recorder.Recorder.give.Goals as goal
+
+pub invariant_of-self : goal.invariant_of-self
+invariant_of-self c =
+    let old = c.self.inside in
+    let new = c.write.new.journal in
+    record {
+      node_high = omega (arith, c.write.ensures.node, c.self.invariant.node_high);
+      notes = notes_given old.journal.node new.node old.journal.entries new.entries old.clock (old.clock + 1) c.args.request
+          old.known old.received.services old.received.receivers old.lists c.self.invariant.notes c.write.ensures.node c.write.ensures.entries;
+      committed = at_most-push old.journal.entries new.entries (entry_at (old.clock + 1) (Given c.args.request)) old.committed c.write.ensures.entries c.self.invariant.committed;
+      spared = omega (arith, c.write.ensures.spare, c.self.invariant.spared);
+      rooms = HaveRoom-less old.lists old.room c.self.invariant.rooms;
+    }

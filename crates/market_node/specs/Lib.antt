@@ -1,0 +1,10 @@
+pub mod PlaceStates
+pub mod Slots
+pub mod Notes
+pub mod Records
+pub mod Recorders
+pub mod Cores
+pub mod Keeping
+pub mod ServiceCores
+pub mod LaneCores
+pub mod Testing

@@ -1,0 +1,239 @@
+//! The core of a lane.
+
+ghost use Rattle.std.specs.Prelude.{◌≡◌, ◌≢◌, ◌+◌, ◌-◌, ◌^◌, ◌<◌, ◌≤◌, max, drop, true, [], length, nat_lt, is_some, IfOk, OnOk, OnErr};
+ghost use Rattle.std.specs.Option.{option_copied};
+ghost use Rattle.market_events.specs.Links.{IsLink, lane_node, sender_of, receiver_of as receiver_by_link, service_by_ask};
+ghost use Rattle.market_events.specs.Offers.{offer_of};
+ghost use Rattle.market_events.specs.Requests.{lane_of};
+ghost use Rattle.market_events.specs.WellFormed.{IsRequest, IsWellFormedEvent};
+ghost use Rattle.market_history.specs.Blocks.{grow, Arrival};
+ghost use Rattle.market_history.specs.Causality.{events_taken};
+ghost use Rattle.market_history.specs.Journals.{IsEvent};
+ghost use Rattle.market_history.specs.Once.{give_of, give_by, is_waiting, reply_of, requests_given, with_id};
+ghost use Rattle.market_history.specs.Stamps.{clock_before};
+ghost use Rattle.market_node.specs.Cores.{with_entries};
+ghost use Rattle.market_node.specs.Keeping.{IsAwaitedBy};
+ghost use Rattle.market_node.specs.Notes.{event_with};
+
+use crate::reading::{given_in, reply_in, told};
+use crate::recorder::Recorder;
+use crate::table::{Kept, keep, note_answer};
+use market_amounts::RequestId;
+use market_events::{
+    Body, Entry, Event, Link, Node, Offer, Reply, Request, receiver_of, service_of,
+};
+use market_history::{Give, Journal};
+use std::alloc::{AllocError, Global};
+use std::collections::BTreeMap;
+use std::marker::Model;
+
+/// How many requests a lane keeps at most.
+pub const MOST_KEPT: u32 = 16_384;
+
+const LANES: u32 = 16;
+
+/// The core of a lane. It keeps each request that it asks, and its answer, for good. Contracts see the node, the entries
+/// of its journal, and how many of them are committed.
+#[derive(Drop)]
+pub struct LaneCore {
+    recorder: Recorder,
+    table: BTreeMap<RequestId, Kept>,
+    count: u32,
+    // The request that has no answer yet.
+    waiting: Option<RequestId>,
+}
+
+impl Model for LaneCore {
+    ghost use Rattle.market_node.specs.Cores.{CoreState};
+
+    ghost Value = { CoreState };
+
+    ghost use Rattle.market_node.specs.LaneCores.{lane_state, IsLaneCore};
+
+    ghost view = { lane_state };
+
+    ghost invariant = { IsLaneCore };
+}
+
+impl LaneCore {
+    /// The core of this lane, 0 to 15, with an empty journal.
+    pub fn new(alloc: Global, lane: u8) -> Result<LaneCore, AllocError>
+        requires { lane < 16 }
+        ensures { IfOk result (λ core. core ≡ record { node = lane_node lane; entries = []; committed = 0 }) }
+    {
+        let recorder = Recorder::new(alloc, node_of(lane))?;
+        Ok(LaneCore {
+            recorder,
+            table: BTreeMap::new(alloc),
+            count: 0,
+            waiting: None,
+        })
+    }
+
+    /// The journal. It takes no memory.
+    pub fn journal(&self) -> &Journal
+        ensures node { result.now.node ≡ self.now.node }
+        ensures entries { result.now.entries ≡ self.now.entries }
+    {
+        self.recorder.journal()
+    }
+
+    /// The entries that are not committed. It takes no memory.
+    pub fn uncommitted(&self) -> &[Entry]
+        ensures { result.now ≡ drop self.now.committed self.now.entries }
+    {
+        self.recorder.uncommitted()
+    }
+
+    /// Counts all entries as committed, and their events as released. It takes no memory.
+    pub fn release(&mut self)
+        ensures { self.new ≡ record self.old { committed = length self.old.entries } }
+    {
+        self.recorder.release();
+    }
+
+    /// The event of a link out of the lane with this number, where one was made. It takes no memory.
+    pub fn event(&self, link: Link, number: u32) -> Option<&Event>
+        requires link { IsLink link }
+        requires from { sender_of link ≡ self.now.node }
+        ensures { option_copied result ≡ event_with link number self.now.entries }
+    {
+        self.recorder.event(link, number)
+    }
+
+    /// The reply to the request with this id, where it is kept and was answered. It takes no memory.
+    pub fn kept(&self, id: RequestId) -> Option<&Reply>
+        ensures { option_copied result ≡ reply_of self.now.entries id }
+    {
+        let place = self.table.get(&id)?.answered?;
+        reply_in(self.recorder.journal().entries().get(place as usize)?, id)
+    }
+
+    // The request that is kept with this id.
+    fn request(&self, id: RequestId) -> Option<&Request>
+        ensures { option_copied result ≡ with_id id (requests_given self.now.entries) }
+    {
+        let place = self.table.get(&id)?.given;
+        given_in(self.recorder.journal().entries().get(place as usize)?, id)
+    }
+
+    // What the lane does with a request.
+    fn judge(&self, request: &Request) -> Give
+        ensures { result ≡ give_of self.now.entries request.now }
+    {
+        decide(
+            self.request(request.id),
+            self.kept(request.id).is_some(),
+            self.waiting.is_some(),
+            self.count < MOST_KEPT,
+            request,
+        )
+    }
+
+    /// Gives the lane a request. It requires a well-formed request of this lane, fewer than 2^31 entries, and a last
+    /// clock of at most 2^62 - 8. Where it is `Asked`, the lane keeps the request and asks its service; in every other
+    /// case, and on want of memory, the lane is as before.
+    pub fn give(&mut self, request: &Request) -> Result<Give, AllocError>
+        requires formed { IsRequest request.now }
+        requires own { lane_node (lane_of request.now.id) ≡ self.old.node }
+        requires few { length self.old.entries < 2 ^ 31 }
+        requires clock { clock_before self.old.entries ≤ 2 ^ 62 - 8 }
+        ensures gives { IfOk result (λ give. give ≡ give_of self.old.entries request.now) }
+        ensures asked { IfOk result (λ give. give ≡ Give.Asked
+            → self.new ≡ with_entries self.old (grow self.old.node self.old.entries (Arrival.Gives request.now))) }
+        ensures other { IfOk result (λ give. give ≢ Give.Asked → self.new ≡ self.old) }
+        ensures err { OnErr result (self.new ≡ self.old) }
+    {
+        let give = self.judge(request);
+        if give != Give::Asked {
+            return Ok(give);
+        }
+        self.recorder.reserve(2)?;
+        let place = self.recorder.journal().entries().len() as u32;
+        keep(&mut self.table, request.id, place)?;
+        self.count += 1;
+        self.waiting = Some(request.id);
+        self.recorder.give(*request);
+        self.recorder.make(link_of(request), Body::Asked(*request));
+        Ok(give)
+    }
+
+    /// Takes an event that is offered to the lane. It requires an event of a link into the lane, with its numbers in
+    /// their ranges and a body that the link can carry, fewer than 2^31 entries, clocks of at most 2^62 - 8, and, where
+    /// the event is taken, the reply to a request that the lane keeps and that has none yet. Where it is not taken, and
+    /// on want of memory, the lane is as before.
+    pub fn take(&mut self, event: &Event) -> Result<Offer, AllocError>
+        requires event { IsEvent event.now }
+        requires formed { IsWellFormedEvent event.now }
+        requires into { receiver_by_link event.now.link ≡ self.old.node }
+        requires few { length self.old.entries < 2 ^ 31 }
+        requires clock { max (clock_before self.old.entries) event.now.clock ≤ 2 ^ 62 - 8 }
+        requires awaited { offer_of self.old.node (events_taken self.old.entries) event.now ≡ Offer.Take → IsAwaitedBy self.old.entries event.now.body }
+        ensures offers { IfOk result (λ offer. offer ≡ offer_of self.old.node (events_taken self.old.entries) event.now) }
+        ensures taken { IfOk result (λ offer. offer ≡ Offer.Take
+            → self.new ≡ with_entries self.old (grow self.old.node self.old.entries (Arrival.Takes event.now))) }
+        ensures other { IfOk result (λ offer. offer ≢ Offer.Take → self.new ≡ self.old) }
+        ensures err { OnErr result (self.new ≡ self.old) }
+    {
+        let offer = self.recorder.offer(event);
+        if offer != Offer::Take {
+            return Ok(offer);
+        }
+        let Some((id, reply)) = told(&event.body) else {
+            return Ok(offer);
+        };
+        let taken = event.try_copy()?;
+        let reply = reply.try_copy()?;
+        self.recorder.reserve(2)?;
+        let place = self.recorder.journal().entries().len() as u32 + 1;
+        note_answer(&mut self.table, id, place);
+        self.waiting = None;
+        self.recorder.take(taken);
+        self.recorder.answer(id, reply);
+        Ok(offer)
+    }
+}
+
+// The node of a lane.
+fn node_of(lane: u8) -> Node
+    requires { lane < 16 }
+    ensures { result ≡ lane_node lane }
+{
+    receiver_of(Link::Told(0, lane))
+}
+
+// The link on which a request is asked.
+fn link_of(request: &Request) -> Link
+    ensures { result ≡ Link.Asked (lane_of request.now.id) (service_by_ask request.now.ask) }
+{
+    let lane = (request.id.caller % LANES) as u8;
+    Link::Asked(lane, service_of(&request.ask).get() as u8)
+}
+
+// What a lane does with a request, by the request that is kept with its id, whether that is answered, whether the lane
+// waits, and whether it has room.
+fn decide(
+    kept: Option<&Request>,
+    answered: bool,
+    waiting: bool,
+    room: bool,
+    request: &Request,
+) -> Give
+    ensures { result ≡ give_by (option_copied kept.entry) answered waiting room request.now }
+{
+    if let Some(kept) = kept {
+        if kept.ask != request.ask {
+            return Give::Differs;
+        }
+        if answered {
+            return Give::Kept;
+        }
+    }
+    if waiting {
+        Give::Waiting
+    } else if room {
+        Give::Asked
+    } else {
+        Give::Full
+    }
+}

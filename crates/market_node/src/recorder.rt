@@ -1,0 +1,225 @@
+//! The record of a node: its journal, and what is noted beside it, so that an entry is added without a walk.
+
+ghost use Rattle.std.specs.Prelude.{◌≡◌, ◌+◌, ◌-◌, ◌^◌, ◌<◌, ◌≤◌, max, drop, true, [], length, IfOk, OnOk, OnErr};
+ghost use Rattle.std.specs.Option.{option_copied};
+ghost use Rattle.market_amounts.specs.declared.keys.RequestId.{RequestId};
+ghost use Rattle.market_events.specs.Carried.{carries};
+ghost use Rattle.market_events.specs.Links.{IsLink, lane_node, sender_of, receiver_of};
+ghost use Rattle.market_events.specs.Offers.{offer_of};
+ghost use Rattle.market_events.specs.Requests.{lane_of};
+ghost use Rattle.market_events.specs.WellFormed.{IsBody, IsReply, IsRequest, IsRequestId, IsWellFormedEvent};
+ghost use Rattle.market_history.specs.Blocks.{with_what, with_out, Out};
+ghost use Rattle.market_history.specs.Causality.{events_taken};
+ghost use Rattle.market_history.specs.Journals.{AsksOwn, IsEvent, IsLane};
+ghost use Rattle.market_history.specs.Stamps.{clock_before};
+ghost use Rattle.market_node.specs.Notes.{event_with};
+
+use crate::counting::raise;
+use crate::lists::Lists;
+use crate::reading::made_on;
+use crate::received::Received;
+use crate::slots::slot_at_sender;
+use crate::writing::write;
+use market_amounts::RequestId;
+use market_events::{Body, Counts, Entry, Event, Link, Node, Offer, Reply, Request, What};
+use market_history::Journal;
+use std::alloc::{AllocError, Global};
+use std::marker::Model;
+
+// The record of a node. Contracts see the node, the entries of its journal, how many of them are committed, and for how
+// many more there is room for sure.
+#[derive(Drop)]
+pub struct Recorder {
+    journal: Journal,
+    // The last clock.
+    clock: u64,
+    // The past of the next event.
+    known: Counts,
+    received: Received,
+    // Where in the journal the events of each link out of the node stand.
+    lists: Lists,
+    committed: usize,
+    room: u32,
+}
+
+impl Model for Recorder {
+    ghost use Rattle.market_node.specs.Records.{RecordState};
+
+    ghost Value = { RecordState };
+
+    ghost use Rattle.market_node.specs.Recorders.{record_of, IsRecorder};
+
+    ghost view = { record_of };
+
+    ghost invariant = { IsRecorder };
+}
+
+impl Recorder {
+    // The record of this node, with no entry and no room.
+    pub fn new(alloc: Global, node: Node) -> Result<Recorder, AllocError>
+        ensures { IfOk result (λ recorder. recorder ≡ record { node = node; entries = []; committed = 0; room = 0 }) }
+    {
+        let _number = node.get();
+        let lists = Lists::new(alloc)?;
+        Ok(Recorder {
+            journal: Journal::new(alloc, node),
+            clock: 0,
+            known: Counts::zero(),
+            received: Received::new(),
+            lists,
+            committed: 0,
+            room: 0,
+        })
+    }
+
+    // The journal. It takes no memory.
+    pub fn journal(&self) -> &Journal
+        ensures node { result.now.node ≡ self.now.node }
+        ensures entries { result.now.entries ≡ self.now.entries }
+    {
+        &self.journal
+    }
+
+    // The entries that are not committed. It takes no memory.
+    pub fn uncommitted(&self) -> &[Entry]
+        ensures { result.now ≡ drop self.now.committed self.now.entries }
+    {
+        &self.journal.entries()[self.committed..]
+    }
+
+    // Counts all entries as committed.
+    pub fn release(&mut self)
+        ensures { self.new ≡ record self.old { committed = length self.old.entries } }
+    {
+        self.committed = self.journal.entries().len();
+    }
+
+    // What becomes of an event that is offered to the node, into which its link leads.
+    pub fn offer(&self, event: &Event) -> Offer
+        requires link { IsLink event.now.link }
+        requires into { receiver_of event.now.link ≡ self.now.node }
+        ensures { result ≡ offer_of self.now.node (events_taken self.now.entries) event.now }
+    {
+        self.received.offer(event, self.journal.node())
+    }
+
+    // Makes room for at least this many entries more. On want of memory the record is as before.
+    pub fn reserve(&mut self, more: u32) -> Result<(), AllocError>
+        ensures ok { OnOk result (self.new ≡ record self.old { room = max self.old.room more }) }
+        ensures err { OnErr result (self.new ≡ self.old) }
+    {
+        self.journal.reserve(more)?;
+        self.lists.reserve(more)?;
+        self.room = self.room.max(more);
+        Ok(())
+    }
+
+    // Adds that the node took an event that was due there. It requires room, and takes no memory.
+    pub fn take(&mut self, event: Event)
+        requires event { IsEvent event }
+        requires formed { IsWellFormedEvent event }
+        requires into { receiver_of event.link ≡ self.old.node }
+        requires due { offer_of self.old.node (events_taken self.old.entries) event ≡ Offer.Take }
+        requires room { 0 < self.old.room }
+        requires few { length self.old.entries < 4_294_967_295 }
+        requires clock { max (clock_before self.old.entries) event.clock < 2 ^ 62 }
+        ensures { self.new ≡ record self.old { entries = with_what self.old.entries (What.Taken event); room = self.old.room - 1 } }
+    {
+        self.received.advance(&event);
+        self.known.merge(&event.past);
+        raise(&mut self.known, event.link, event.number);
+        self.clock = self.clock.max(event.clock) + 1;
+        self.room -= 1;
+        let entry = Entry {
+            clock: self.clock,
+            what: What::Taken(event),
+        };
+        write(&mut self.journal, entry);
+    }
+
+    // Adds that the node made an event of this body on a link that leads out of it, with the next number. It requires
+    // room, and takes no memory.
+    pub fn make(&mut self, link: Link, body: Body)
+        requires link { IsLink link }
+        requires from { sender_of link ≡ self.old.node }
+        requires carried { carries link body ≡ true }
+        requires formed { IsBody body }
+        requires own { AsksOwn link body }
+        requires room { 0 < self.old.room }
+        requires few { length self.old.entries < 4_294_967_295 }
+        requires clock { clock_before self.old.entries < 2 ^ 62 }
+        ensures { self.new ≡ record self.old { entries = with_out self.old.entries (Out.Makes link body); room = self.old.room - 1 } }
+    {
+        let slot = slot_at_sender(link);
+        let number = self.lists.len(slot) as u32 + 1;
+        let place = self.journal.entries().len() as u32;
+        self.lists.push(slot, place);
+        self.clock += 1;
+        self.room -= 1;
+        let event = Event {
+            link,
+            number,
+            clock: self.clock,
+            past: self.known,
+            body,
+        };
+        raise(&mut self.known, link, number);
+        let entry = Entry {
+            clock: self.clock,
+            what: What::Made(event),
+        };
+        write(&mut self.journal, entry);
+    }
+
+    // Adds that the node, a lane, was given a request of its own. It requires room, and takes no memory.
+    pub fn give(&mut self, request: Request)
+        requires formed { IsRequest request }
+        requires own { lane_node (lane_of request.id) ≡ self.old.node }
+        requires room { 0 < self.old.room }
+        requires few { length self.old.entries < 4_294_967_295 }
+        requires clock { clock_before self.old.entries < 2 ^ 62 }
+        ensures { self.new ≡ record self.old { entries = with_what self.old.entries (What.Given request); room = self.old.room - 1 } }
+    {
+        self.clock += 1;
+        self.room -= 1;
+        let entry = Entry {
+            clock: self.clock,
+            what: What::Given(request),
+        };
+        write(&mut self.journal, entry);
+    }
+
+    // Adds that the node, a lane, answered a request. It requires room, and takes no memory.
+    pub fn answer(&mut self, id: RequestId, reply: Reply)
+        requires id { IsRequestId id }
+        requires reply { IsReply reply }
+        requires lane { IsLane self.old.node }
+        requires room { 0 < self.old.room }
+        requires few { length self.old.entries < 4_294_967_295 }
+        requires clock { clock_before self.old.entries < 2 ^ 62 }
+        ensures { self.new ≡ record self.old { entries = with_what self.old.entries (What.Answered id reply); room = self.old.room - 1 } }
+    {
+        self.clock += 1;
+        self.room -= 1;
+        let entry = Entry {
+            clock: self.clock,
+            what: What::Answered(id, reply),
+        };
+        write(&mut self.journal, entry);
+    }
+
+    // The event of a link out of the node with this number, where one was made. It takes no memory.
+    pub fn event(&self, link: Link, number: u32) -> Option<&Event>
+        requires link { IsLink link }
+        requires from { sender_of link ≡ self.now.node }
+        ensures { option_copied result ≡ event_with link number self.now.entries }
+    {
+        let entries = self.journal.entries();
+        if number == 0 {
+            return None;
+        }
+        let index = number as usize - 1;
+        let place = self.lists.get(slot_at_sender(link), index)?;
+        made_on(entries.get(place as usize)?, link)
+    }
+}
