@@ -4,3 +4,5 @@ pub mod Runs
 pub mod Cuts
 pub mod Fitting
 pub mod Pasts
+pub mod Merged
+pub mod Causes

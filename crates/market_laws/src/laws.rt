@@ -11,7 +11,7 @@ ghost use Rattle.market_history.specs.Blocks.{services};
 ghost use Rattle.market_history.specs.Causality.{IsBefore, events_taken};
 ghost use Rattle.market_history.specs.Histories.{Histories, nodes, journal_at, no_histories, IsHistories};
 ghost use Rattle.market_history.specs.Lawful.{IsLawful, IsLawfulAt};
-ghost use Rattle.market_history.specs.Schedule.{play, IsStep, event_at, offered, outcome_of};
+ghost use Rattle.market_history.specs.Schedule.{play, IsStep, event_at, offered, outcome_of, outcomes, merged};
 ghost use Rattle.market_laws.specs.Entries.{total_entries};
 ghost use Rattle.market_laws.specs.Fitting.{EachFits, EachInTime};
 ghost use Rattle.market_laws.specs.Grown.{Grown};
@@ -41,6 +41,9 @@ ghost use Rattle.market_events.specs.declared.links.Link.{Link};
 ghost use Rattle.market_history.specs.declared.schedule.Outcome.TheVariants as outcomes;
 ghost use Rattle.market_history.specs.declared.schedule.Step.TheVariants as moves;
 ghost use Rattle.market_history.specs.Outstanding.{IsSettled, IsOldest};
+ghost use Rattle.market_laws.specs.Merged.{IsDone};
+ghost use Rattle.market_history.specs.Checkouts.{is_kept_checkout};
+ghost use Rattle.market_laws.specs.Causes.{ReservesHaveCauses, StockAnswersHaveCauses, InvoicesHaveCauses, PaymentsHaveCauses, ShipmentsHaveCauses, EndingsHaveCauses, TellingsHaveCauses, DeliveriesHaveCauses, all_made_for};
 
 /// The journal of a node is lawful exactly where it grew from nothing, block by block, each of them begun when it could.
 pub fn lawful_journals_are_grown()
@@ -204,4 +207,30 @@ pub fn the_oldest_event_is_taken()
     ensures taken { (h : Histories) (link : Link) (number : ℕ) → IsLawful h → IsLink link → (o : IsOldest h link number) → offered h o.event ≡ offers.Take }
     ensures comes { (h : Histories) (link : Link) (number : ℕ) → IsLawful h → IsLink link → IsOldest h link number
         → outcome_of h (moves.Offer link number) ≡ outcomes.Offered offers.Take }
+{}
+
+/// Lawful histories came by their merged schedule: the requests that were given and the events that were taken, in the order
+/// of clock and node, leave just these histories once they are played from nothing. And each of its steps acts: its request is
+/// asked, or its event is taken.
+pub fn merged_schedules_leave_the_histories()
+    ensures left { (h : Histories) → IsLawful h → play no_histories (merged h) ≡ h }
+    ensures done { (h : Histories) → IsLawful h → AllByRecursion IsDone (outcomes no_histories (merged h)) }
+{}
+
+/// In lawful histories the events of a checkout have causes. Each kind of them is made only in blocks of the events that it
+/// follows from, for the same customer and of the same lines; each such block makes it whole, on each of its links in their
+/// order; and each is made once at most on each link. What its receiver rests on it took before: of a Reserve the changes of
+/// its products, of a payment the invoice, of a shipment the payment, of a delivery the shipment. A checkout is told its reply
+/// by the cart alone, for its request, for the refusal of stock or for its end. In all, a checkout makes at most 14 events with
+/// its request, deliveries apart.
+pub fn events_have_causes()
+    ensures reserves { (h : Histories) (c : RequestId) → IsLawful h → ReservesHaveCauses h c }
+    ensures stock_answers { (h : Histories) (c : RequestId) → IsLawful h → StockAnswersHaveCauses h c }
+    ensures invoices { (h : Histories) (c : RequestId) → IsLawful h → InvoicesHaveCauses h c }
+    ensures payments { (h : Histories) (c : RequestId) → IsLawful h → PaymentsHaveCauses h c }
+    ensures shipments { (h : Histories) (c : RequestId) → IsLawful h → ShipmentsHaveCauses h c }
+    ensures endings { (h : Histories) (c : RequestId) → IsLawful h → EndingsHaveCauses h c }
+    ensures tellings { (h : Histories) (c : RequestId) → IsLawful h → is_kept_checkout h c ≡ true → TellingsHaveCauses h c }
+    ensures deliveries { (h : Histories) (c : RequestId) → IsLawful h → DeliveriesHaveCauses h c }
+    ensures few { (h : Histories) (c : RequestId) → IsLawful h → is_kept_checkout h c ≡ true → all_made_for h c ≤ 14 }
 {}

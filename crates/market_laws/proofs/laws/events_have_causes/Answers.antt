@@ -1,0 +1,24 @@
+-- One file for each kind of event.
+use Rattle.market_laws.proofs.CausesDeliveries.{deliveries-caused}
+use Rattle.market_laws.proofs.CausesEndings.{endings-caused}
+use Rattle.market_laws.proofs.CausesFewLanes.{few-caused}
+use Rattle.market_laws.proofs.CausesInvoices.{invoices-caused}
+use Rattle.market_laws.proofs.CausesPayments.{payments-caused}
+use Rattle.market_laws.proofs.CausesReserves.{reserves-caused}
+use Rattle.market_laws.proofs.CausesShipments.{shipments-caused}
+use Rattle.market_laws.proofs.CausesStock.{stock-answers}
+use Rattle.market_laws.proofs.CausesTellings.{tellings-caused}
+use Rattle.market_laws.proofs.laws.events_have_causes.Goals as goal
+
+pub returns : goal.returns
+returns f = record {
+  reserves = λ h c lawful. reserves-caused h lawful c;
+  stock_answers = λ h c lawful. stock-answers h lawful c;
+  invoices = λ h c lawful. invoices-caused h lawful c;
+  payments = λ h c lawful. payments-caused h lawful c;
+  shipments = λ h c lawful. shipments-caused h lawful c;
+  endings = λ h c lawful. endings-caused h lawful c;
+  tellings = λ h c lawful kept. tellings-caused h lawful c kept;
+  deliveries = λ h c lawful. deliveries-caused h lawful c;
+  few = λ h c lawful kept. few-caused h lawful c kept;
+}
