@@ -76,7 +76,7 @@ def carts(size, held):
     return ''.join(lines).encode()
 
 
-def timed(program, text, status):
+def timed(command, text, status):
     """the least time of some rounds, and the peak memory of all children so far in MB"""
     with tempfile.TemporaryFile() as file:
         file.write(text)
@@ -84,11 +84,10 @@ def timed(program, text, status):
         for _ in range(ROUNDS):
             file.seek(0)
             begin = time.perf_counter()
-            done = subprocess.run([program, 'run', '1', '0'], stdin=file, stdout=subprocess.DEVNULL,
-                                  stderr=subprocess.DEVNULL)
+            done = subprocess.run(command, stdin=file, stdout=subprocess.DEVNULL, stderr=subprocess.DEVNULL)
             took = time.perf_counter() - begin
             if done.returncode != status:
-                sys.exit(f'{program} ended with {done.returncode}, not {status}')
+                sys.exit(f'{command[0]} ended with {done.returncode}, not {status}')
             best = took if best is None else min(best, took)
     return best, resource.getrusage(resource.RUSAGE_CHILDREN).ru_maxrss / 1024
 
@@ -96,14 +95,15 @@ def timed(program, text, status):
 def main():
     here = os.path.dirname(os.path.abspath(__file__))
     program = sys.argv[1] if len(sys.argv) > 1 else os.path.join(here, '..', 'crates', 'market', 'out', 'market')
+    command = [program, 'run', '1', '0']
     print('records    seconds   s/1,000   MB/s    peak MB   reading   dashboards')
     each = []
     without = []
     for size in SIZES:
         text = workload(size)
-        took, peak = timed(program, text, 0)
-        reading, _ = timed(program, text + b'0,0,paint\n', 3)
-        plain, _ = timed(program, workload(size, dashboards=False), 0)
+        took, peak = timed(command, text, 0)
+        reading, _ = timed(command, text + b'0,0,paint\n', 3)
+        plain, _ = timed(command, workload(size, dashboards=False), 0)
         each.append(took / size)
         without.append(plain / size)
         print(f'{size:7}   {took:8.3f}  {1000 * took / size:8.5f}  {len(text) / took / 1e6:6.1f}  {peak:8.1f}   {100 * reading / took:5.1f} %'
@@ -111,7 +111,7 @@ def main():
     print(f'time per record, largest to smallest: {each[-1] / each[0]:.2f}, without dashboards {without[-1] / without[0]:.2f}')
     for held in [1, 8, 32]:
         text = carts(SIZES[2], held)
-        took, _ = timed(program, text, 0)
+        took, _ = timed(command, text, 0)
         print(f'carts of {held:2} lines: {1000 * took / SIZES[2]:8.5f} s per 1,000 records')
 
 

@@ -73,7 +73,7 @@ undone_told id buyer s (i ∷ is) None link c r (inr never) = absurd never
 
 module _ (h : Histories) (lawful : IsLawful h) where
   -- a request that a service took was given to the lane of its id
-  given_there : (n : ℕ) (event : Event) (t : TookAt h n event) (request : Request) → event.body ≡ body.Asked request → Member request (kept_by h (lane_of request.id))
+  pub given_there : (n : ℕ) (event : Event) (t : TookAt h n event) (request : Request) → event.body ≡ body.Asked request → Member request (kept_by h (lane_of request.id))
   given_there n event t request is =
       let lane = lane_node (lane_of request.id) in
       let link = event.link in

@@ -43,7 +43,7 @@ comes_through a m b n c p one two = by (comes_parts a m b n one) (comes_parts b 
     by (inr less) (inl more) = comes_less a m c p (omega (arith, less.0, more))
     by (inr less) (inr more) = comes_by a m c p (omega (arith, less.0, more.0)) (omega (arith, less.1, more.1))
 
-comes_other : (a m b n : ℕ) → comes a m b n ≡ false → comes b n a m ≡ true
+pub comes_other : (a m b n : ℕ) → comes a m b n ≡ false → comes b n a m ≡ true
 comes_other a m b n is = by (nat_lt a b) refl (nat_lt b a) refl
   where
     by : (less : Bool) → nat_lt a b ≡ less → (more : Bool) → nat_lt b a ≡ more → comes b n a m ≡ true
@@ -54,7 +54,7 @@ comes_other a m b n is = by (nat_lt a b) refl (nat_lt b a) refl
         let le : n ≤ m = grind (arith, nat_tests) in
         comes_by b n a m (omega (arith, same)) le
 
-no_later-through : (e f g : Event) → is_no_later e f ≡ true → is_no_later f g ≡ true → is_no_later e g ≡ true
+pub no_later-through : (e f g : Event) → is_no_later e f ≡ true → is_no_later f g ≡ true → is_no_later e g ≡ true
 no_later-through e f g one two = comes_through e.clock (sender_of e.link) f.clock (sender_of f.link) g.clock (sender_of g.link) one two
 
 -- no event of the list comes before this one
@@ -72,7 +72,7 @@ record BestOf (h : Histories) (links : List Link) : Type 0 where
 
 module _ (h : Histories) (lawful : IsLawful h) where
   -- the first of a link is the oldest of it
-  own_later : (link : Link) → IsLink link → (event : Event) (rest : List Event) → outstanding h link ≡ event ∷ rest → AllLater event (event ∷ rest)
+  pub own_later : (link : Link) → IsLink link → (event : Event) (rest : List Event) → outstanding h link ≡ event ∷ rest → AllLater event (event ∷ rest)
   own_later link on event rest is = (itself, all-by (λ (e : Event). is_no_later event e ≡ true) rest each)
     where
       itself : is_no_later event event ≡ true

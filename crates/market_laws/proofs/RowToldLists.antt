@@ -86,7 +86,7 @@ only_one test x y (z ∷ zs) few (inr later) (inr more_later) p q =
     only_one test x y zs (omega (arith, sum_by-cons (λ w. cond (test w) 1 0) z zs)) later more_later p q
 
 -- an entry that took an event
-event_taken-is : (what : What) (event : Event) → event_taken what ≡ Some event → what ≡ Taken event
+pub event_taken-is : (what : What) (event : Event) → event_taken what ≡ Some event → what ≡ Taken event
 event_taken-is (Given request) event e = let no : ⊥ = cc in absurd no
 event_taken-is (Taken other) event e = let same : other ≡ event = cc in ap Taken same
 event_taken-is (Made other) event e = let no : ⊥ = cc in absurd no

@@ -30,9 +30,9 @@ cart_makes : (P : List Sending → Body → Type 0) → ((s : CartSums) (b : Bod
 cart_makes P holds before s follows = subst (λ made. P made s.body) (sym (follows.made ∙ answers-cart before s.from s.body)) (holds (cart_sums before) s.body)
 
 -- a request with the id is told, or sent on, once; and the end of a checkout is told once
-record IsFew (id : RequestId) (made : List Sending) (b : Body) : Type 0 where
-  told : count_all (tells id) made + count_on 2 (reserves id) made ≡ cond (asks id b) 1 0 + cond (ends id b) 1 0
-  sent : count_on 2 (reserves id) made ≤ cond (asks id b) 1 0
+pub record IsFew (id : RequestId) (made : List Sending) (b : Body) : Type 0 where
+  pub told : count_all (tells id) made + count_on 2 (reserves id) made ≡ cond (asks id b) 1 0 + cond (ends id b) 1 0
+  pub sent : count_on 2 (reserves id) made ≤ cond (asks id b) 1 0
 
 -- what the cart makes is few
 makes_few : (id : RequestId) (s : CartSums) (b : Body) → IsHere Role.Cart b → IsFew id (cart_rows s b) b
@@ -70,7 +70,7 @@ makes_few id s (body.Asked request) here = asked request.ask here
 makes_few id s other here = record { told = omega arith; sent = omega arith }
 
 -- at each step
-few-at : (id : RequestId) (before : List Step) (s : Step) → Follows Role.Cart before s → IsFew id s.made s.body
+pub few-at : (id : RequestId) (before : List Step) (s : Step) → Follows Role.Cart before s → IsFew id s.made s.body
 few-at id before s follows = cart_makes (λ made b. IsHere Role.Cart b → IsFew id made b) (makes_few id) before s follows (taken_here Role.Cart before s follows)
 
 -- as much is told and sent on as is asked and ended

@@ -6,3 +6,4 @@ pub mod Fitting
 pub mod Pasts
 pub mod Merged
 pub mod Causes
+pub mod Settling

@@ -1,13 +1,17 @@
 //! Laws over the definitions: each is the contract of a function that does nothing.
 
-ghost use Rattle.std.specs.Prelude.{ℕ, ◌^◌, ◌<◌, ◌≤◌, ◌↔◌, List, slice_index, Contains, ◌≡◌, ◌+◌, true, [], ◌∷◌, ◌++◌, filter, filter_map, count_by, ◌⊎◌, Some};
-ghost use Rattle.std.specs.List.{AllByRecursion};
+ghost use Rattle.std.specs.Prelude.{ℕ, ◌^◌, ◌<◌, ◌≤◌, ◌↔◌, List, slice_index, Contains, ◌≡◌, ◌+◌, true, [], ◌∷◌, ◌++◌, filter, filter_map, count_by, ◌⊎◌, Some, false, is_some};
+ghost use Rattle.std.specs.List.{AllByRecursion, sum_by};
 ghost use Rattle.market_events.specs.declared.events.Entry.{Entry};
 ghost use Rattle.market_events.specs.declared.events.Event.{Event};
 ghost use Rattle.market_events.specs.declared.links.Link.TheVariants.{Service};
-ghost use Rattle.market_events.specs.Links.{receiver_of, IsLink};
+ghost use Rattle.market_events.specs.declared.requests.Request.{Request};
+ghost use Rattle.market_events.specs.Links.{receiver_of, IsLink, lane_node};
+ghost use Rattle.market_events.specs.Requests.{lanes};
+ghost use Rattle.market_history.specs.Once.{is_waiting, kept_by, reply_at};
 ghost use Rattle.market_history.specs.declared.schedule.Step.{Step as Move};
-ghost use Rattle.market_history.specs.Blocks.{services};
+ghost use Rattle.market_history.specs.Blocks.{services, service_steps};
+ghost use Rattle.market_history.specs.Book.{IsBook};
 ghost use Rattle.market_history.specs.Causality.{IsBefore, events_taken};
 ghost use Rattle.market_history.specs.Histories.{Histories, nodes, journal_at, no_histories, IsHistories};
 ghost use Rattle.market_history.specs.Lawful.{IsLawful, IsLawfulAt};
@@ -28,12 +32,12 @@ ghost use Rattle.market_events.specs.declared.bodies.StockRule.{StockRule};
 ghost use Rattle.market_events.specs.declared.changes.Change.{Change};
 ghost use Rattle.market_events.specs.declared.requests.Ask.TheVariants as asked;
 ghost use Rattle.market_events.specs.Copies.{copy_of};
-ghost use Rattle.market_events.specs.Orders.{order_total, ships};
+ghost use Rattle.market_events.specs.Orders.{is_of, order_total, ships};
 ghost use Rattle.market_events.specs.Products.{change_in};
 ghost use Rattle.market_events.specs.Services.{Role, IsRunOf, asks, change_fits, ends, invoices, items_apart, reserves};
 ghost use Rattle.market_events.specs.Shipments.{items_made};
 ghost use Rattle.market_events.specs.Steps.{Step, taken_bodies, made_on};
-ghost use Rattle.market_events.specs.Stocks.{confirms, fails, settles};
+ghost use Rattle.market_events.specs.Stocks.{Reservation, confirms, fails, on_hand, pieces_of, reserved, settles};
 ghost use Rattle.market_events.specs.WellFormed.{total_of};
 ghost use Rattle.market_laws.specs.Runs.{Member, IsPaidFor, bodies_made, tells, holds_pieces, is_payment, is_delivery};
 ghost use Rattle.market_events.specs.declared.events.Offer.TheVariants as offers;
@@ -42,7 +46,8 @@ ghost use Rattle.market_history.specs.declared.schedule.Outcome.TheVariants as o
 ghost use Rattle.market_history.specs.declared.schedule.Step.TheVariants as moves;
 ghost use Rattle.market_history.specs.Outstanding.{IsSettled, IsOldest};
 ghost use Rattle.market_laws.specs.Merged.{IsDone};
-ghost use Rattle.market_history.specs.Checkouts.{is_kept_checkout};
+ghost use Rattle.market_history.specs.Checkouts.{is_kept_checkout, listed_reservations, IsDecided};
+ghost use Rattle.market_laws.specs.Settling.{on_its_way};
 ghost use Rattle.market_laws.specs.Causes.{ReservesHaveCauses, StockAnswersHaveCauses, InvoicesHaveCauses, PaymentsHaveCauses, ShipmentsHaveCauses, EndingsHaveCauses, TellingsHaveCauses, DeliveriesHaveCauses, all_made_for};
 
 /// The journal of a node is lawful exactly where it grew from nothing, block by block, each of them begun when it could.
@@ -233,4 +238,35 @@ pub fn events_have_causes()
     ensures tellings { (h : Histories) (c : RequestId) → IsLawful h → is_kept_checkout h c ≡ true → TellingsHaveCauses h c }
     ensures deliveries { (h : Histories) (c : RequestId) → IsLawful h → DeliveriesHaveCauses h c }
     ensures few { (h : Histories) (c : RequestId) → IsLawful h → is_kept_checkout h c ≡ true → all_made_for h c ≤ 14 }
+{}
+
+/// In lawful histories the pieces of a product that stock has reserved are those of the listed reservations: those that stock
+/// sent to orders, and for whose checkout it took neither payment nor failure (`sum`). Each of these waits for just one event: of
+/// its checkout one is outstanding, from stock to orders, from orders to payments, or from payments to stock (`waits`); and as
+/// many are of any checkout as its listed reservations (`listed`). No more pieces are reserved than are on hand (`covered`).
+pub fn reserved_is_listed()
+    ensures sum { (h : Histories) (key : ProductKey) → IsLawful h
+        → reserved (service_steps h Role.Stock) key ≡ sum_by (λ (r : Reservation). pieces_of key r.lines) (listed_reservations h) }
+    ensures waits { (h : Histories) → IsLawful h → AllByRecursion (λ (r : Reservation). on_its_way h r.checkout ≡ 1) (listed_reservations h) }
+    ensures listed { (h : Histories) (c : RequestId) → IsLawful h → on_its_way h c ≡ count_by (is_of c) (listed_reservations h) }
+    ensures covered { (steps : List Step) → IsRunOf Role.Stock steps → (key : ProductKey) → reserved steps key ≤ on_hand steps key }
+{}
+
+/// In lawful histories that are settled no lane waits, and each request that a lane keeps has its reply.
+pub fn settled_lanes_answer()
+    ensures idle { (h : Histories) (lane : ℕ) → IsLawful h → IsSettled h → lane < lanes → is_waiting (journal_at h (lane_node lane)) ≡ false }
+    ensures answered { (h : Histories) (lane : ℕ) (r : Request) → IsLawful h → IsSettled h → lane < lanes → Member r (kept_by h lane) → is_some (reply_at h r.id) ≡ true }
+{}
+
+/// In lawful histories that are settled each checkout that is kept is whole in stock, order, payment and shipment, with a total
+/// that its reply says and with its sellers' entries; or it is undone in all four, by a rule that its reply says.
+pub fn settled_checkouts_are_decided()
+    ensures { (h : Histories) (c : RequestId) → IsLawful h → IsSettled h → is_kept_checkout h c ≡ true → IsDecided h c }
+{}
+
+/// In lawful histories that are settled every table of every service is the sum of what was accepted: what is sold, spent,
+/// packed and counted are just the checkouts whose reply says that they are whole, and what is cancelled just those that were
+/// undone for want of payment; nothing is reserved.
+pub fn settled_histories_are_the_book()
+    ensures { (h : Histories) → IsLawful h → IsSettled h → IsBook h }
 {}

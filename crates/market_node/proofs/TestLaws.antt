@@ -1,9 +1,12 @@
 -- What the tests know of a lane's core after each call.
-use Rattle.std.proofs.Common.{◌≡◌, ◌≢◌, ℕ, ◌+◌, ◌≤◌, Result, Ok, Err, IfOk, OnErr, subst, true, max, cond, is_some, ◌&&◌, List, [], Some, None, length, refl, ap, sym, ◌∙◌, arith}
+use Rattle.std.proofs.Common.{◌≡◌, ◌≢◌, ℕ, ◌+◌, ◌≤◌, Result, Ok, Err, IfOk, OnErr, subst, Bool, true, false, not, max, cond, is_some, is_none, ◌&&◌, Option, List, [], Some, None, length, refl, ap, sym, ◌∙◌, arith}
+use denote.Bor.{Bor}
+use Rattle.std.specs.Option.{option_copied, option_or}
 use Rattle.market_amounts.specs.declared.keys.RequestId.{RequestId}
 use Rattle.market_events.specs.declared.bodies.Body.TheVariants as body
 use Rattle.market_events.specs.declared.events.Entry.{Entry}
 use Rattle.market_events.specs.declared.events.Event.{Event}
+use Rattle.market_events.specs.declared.events.What.{What}
 use Rattle.market_events.specs.declared.events.What.TheVariants.{Given, Taken, Made, Answered}
 use Rattle.market_events.specs.declared.links.Link.TheVariants.{Asked}
 use Rattle.market_events.specs.declared.replies.Reply.{Reply}
@@ -12,7 +15,9 @@ use Rattle.market_events.specs.Links.{service_by_ask}
 use Rattle.market_events.specs.Requests.{lane_of}
 use Rattle.market_events.proofs.SameLaws.{same_id-self}
 use Rattle.market_history.specs.Blocks.{Arrival, services, with_what, next_event, grow}
-use Rattle.market_history.specs.Stamps.{clock_before}
+use Rattle.market_history.specs.Once.{requests_given, with_id, reply_of}
+use Rattle.market_history.specs.Stamps.{clock_before, stamp_of}
+use Rattle.market_history.proofs.CoreRequests.{requests_given-push-given, requests_given-push-none, with_id-push}
 use Rattle.market_history.proofs.CoreGrow.{grow-given, grow-told, length-with_what, clock-with_what}
 use Rattle.market_history.specs.declared.schedule.Give.{Give}
 use Rattle.market_history.specs.declared.schedule.Give.TheVariants as give
@@ -28,6 +33,38 @@ pub first_awaited : (n : ℕ) (r : Request) → services ≤ n → is_awaited (g
 first_awaited n r lane =
     ap (λ es. is_awaited es r.id) (grow-given n [] r lane)
     ∙ ap (λ b. is_some (cond b (Some r) None) && true) (same_id-self r.id)
+
+or_some : {A : Type 0} (o : Option A) (x : A) → is_some (option_or o (Some x)) ≡ true
+or_some None x = refl
+or_some (Some y) x = refl
+
+-- a request that was given is found
+given_found : (n : ℕ) (entries : List Entry) (r : Request) → services ≤ n → is_some (with_id r.id (requests_given (grow n entries (Arrival.Gives r)))) ≡ true
+given_found n entries r lane =
+    let asked : What = Made (next_event (with_what entries (Given r)) (Asked (lane_of r.id) (service_by_ask r.ask)) (body.Asked r)) in
+    ap (λ (es : List Entry). is_some (with_id r.id (requests_given es))) (grow-given n entries r lane)
+    ∙ ap (λ (rs : List Request). is_some (with_id r.id rs))
+    (requests_given-push-none (with_what entries (Given r)) (record { clock = stamp_of (clock_before (with_what entries (Given r))) asked; what = asked }) refl
+    ∙ requests_given-push-given entries (record { clock = stamp_of (clock_before entries) (Given r); what = Given r }) r refl)
+    ∙ ap (λ (o : Option Request). is_some o) (with_id-push r.id (requests_given entries) r)
+    ∙ ap (λ b. is_some (option_or (with_id r.id (requests_given entries)) (cond b (Some r) None))) (same_id-self r.id)
+    ∙ or_some (with_id r.id (requests_given entries)) r
+
+-- where nothing is lent, nothing is there
+pub none_copied : {A : Type 0} (lent : Option (Bor A)) (b : Bool) (there : Option A) → option_copied lent ≡ there → is_some lent ≡ not b → b ≡ true → is_none there ≡ true
+none_copied {A = A} lent b there copied tested none = ap (λ o. is_none o) (sym copied) ∙ by_lent lent (tested ∙ ap (λ t. not t) none)
+  where
+    by_lent : (o : Option (Bor A)) → is_some o ≡ false → is_none (option_copied o) ≡ true
+    by_lent None empty = refl
+    by_lent (Some x) empty = let no : ⊥ = cc in absurd no
+
+-- a request that is asked and has no reply awaits it
+pub asked_awaited : (old new : CoreState) (r : Request) → old.node ≡ 15 → new ≡ with_entries old (grow old.node old.entries (Arrival.Gives r)) → is_none (reply_of new.entries r.id) ≡ true → is_awaited new.entries r.id ≡ true
+asked_awaited old new r node asked open_one =
+    let lane : services ≤ old.node = omega arith in
+    let found : is_some (with_id r.id (requests_given new.entries)) ≡ true =
+    ap (λ (core : CoreState). is_some (with_id r.id (requests_given core.entries))) asked ∙ given_found old.node old.entries r lane in
+    ap (λ b. b && is_none (reply_of new.entries r.id)) found ∙ open_one
 
 -- two entries more
 pub length-given : (n : ℕ) (entries : List Entry) (r : Request) → services ≤ n → length (grow n entries (Arrival.Gives r)) ≡ length entries + 2

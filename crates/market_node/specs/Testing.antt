@@ -1,13 +1,19 @@
 -- What the tests keep of a lane's core.
-use Rattle.std.specs.Prelude.{◌≡◌, ◌+◌, ◌≤◌, length}
+use Rattle.std.specs.Prelude.{◌≡◌, ℕ, ◌+◌, ◌*◌, ◌≤◌, length}
 use Rattle.market_history.specs.Stamps.{clock_before}
 use Rattle.market_node.specs.Cores.{CoreState}
 
 -- it is the core of lane 7, with few entries and a low clock
 pub record IsSmall (core : CoreState) : Type 0 where
   pub node : core.node ≡ 15
-  pub few : length core.entries ≤ 1000
-  pub clock : clock_before core.entries ≤ 1000
+  pub few : length core.entries ≤ 1_000_000
+  pub clock : clock_before core.entries ≤ 1_000_000
+
+-- it is the core of lane 7 after at most so many requests that were answered
+pub record IsWithin (requests : ℕ) (core : CoreState) : Type 0 where
+  pub node : core.node ≡ 15
+  pub few : length core.entries ≤ 4 * requests
+  pub clock : clock_before core.entries ≤ 20 * requests
 
 -- it got at most two entries, and its clock rose by at most ten
 pub record GrewLittle (old new : CoreState) : Type 0 where

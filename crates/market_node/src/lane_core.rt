@@ -3,7 +3,7 @@
 ghost use Rattle.std.specs.Prelude.{◌≡◌, ◌≢◌, ◌+◌, ◌-◌, ◌^◌, ◌<◌, ◌≤◌, max, drop, true, [], length, nat_lt, is_some, IfOk, OnOk, OnErr};
 ghost use Rattle.std.specs.Option.{option_copied};
 ghost use Rattle.market_events.specs.Links.{IsLink, lane_node, sender_of, receiver_of as receiver_by_link, service_by_ask};
-ghost use Rattle.market_events.specs.Offers.{offer_of};
+ghost use Rattle.market_events.specs.Offers.{offer_of, taken_on};
 ghost use Rattle.market_events.specs.Requests.{lane_of};
 ghost use Rattle.market_events.specs.WellFormed.{IsRequest, IsWellFormedEvent};
 ghost use Rattle.market_history.specs.Blocks.{grow, Arrival};
@@ -99,6 +99,15 @@ impl LaneCore {
         ensures { option_copied result ≡ event_with link number self.now.entries }
     {
         self.recorder.event(link, number)
+    }
+
+    /// How many events were taken on a link into the lane. It takes no memory.
+    pub fn taken(&self, link: Link) -> u32
+        requires link { IsLink link }
+        requires into { receiver_by_link link ≡ self.now.node }
+        ensures { result ≡ taken_on (events_taken self.now.entries) link }
+    {
+        self.recorder.taken(link)
     }
 
     /// The reply to the request with this id, where it is kept and was answered. It takes no memory.

@@ -4,7 +4,7 @@ ghost use Rattle.std.specs.Prelude.{◌≡◌, ◌≢◌, ◌-◌, ◌^◌, ◌<
 ghost use Rattle.std.specs.Option.{option_copied};
 ghost use Rattle.market_events.specs.Cells.{cells_of};
 ghost use Rattle.market_events.specs.Links.{IsLink, sender_of, receiver_of};
-ghost use Rattle.market_events.specs.Offers.{offer_of};
+ghost use Rattle.market_events.specs.Offers.{offer_of, taken_on};
 ghost use Rattle.market_events.specs.Services.{fits, node_of};
 ghost use Rattle.market_events.specs.WellFormed.{IsWellFormedEvent};
 ghost use Rattle.market_history.specs.Blocks.{grow, inputs_of, steps_of, Arrival};
@@ -90,6 +90,15 @@ impl<S: Service> NodeCore<S> {
         ensures { option_copied result ≡ event_with link number self.now.entries }
     {
         self.recorder.event(link, number)
+    }
+
+    /// How many events were taken on a link into the node. It takes no memory.
+    pub fn taken(&self, link: Link) -> u32
+        requires link { IsLink link }
+        requires into { receiver_of link ≡ self.now.node }
+        ensures { result ≡ taken_on (events_taken self.now.entries) link }
+    {
+        self.recorder.taken(link)
     }
 
     /// Takes an event that is offered to the node. It requires an event of a link into the node, with its numbers in

@@ -9,7 +9,7 @@ ghost use Rattle.market_node.specs.Slots.{slot_into, slots};
 
 use crate::counting::raise;
 use crate::slots::{SLOTS, slot_at_receiver};
-use market_events::{Counts, Event, Node, Offer};
+use market_events::{Counts, Event, Link, Node, Offer};
 use market_links::Receiver;
 
 // How many events were taken on each service link, and on each link into the node, by slot.
@@ -38,6 +38,14 @@ impl Received {
         ensures { result ≡ offer_by (slice_index self.now.receivers (slot_into event.now.link)) node self.now.services event.now }
     {
         self.receivers[slot_at_receiver(event.link)].offer(event, node, &self.services)
+    }
+
+    // How many events were taken on a link into the node.
+    pub fn taken(&self, link: Link) -> u32
+        requires { IsLink link }
+        ensures { result ≡ slice_index self.now.receivers (slot_into link) }
+    {
+        self.receivers[slot_at_receiver(link)].count()
     }
 
     // Counts an event as taken, which requires that fewer than 4,294,967,295 were on its link.

@@ -5,7 +5,7 @@ ghost use Rattle.std.specs.Option.{option_copied};
 ghost use Rattle.market_amounts.specs.declared.keys.RequestId.{RequestId};
 ghost use Rattle.market_events.specs.Carried.{carries};
 ghost use Rattle.market_events.specs.Links.{IsLink, lane_node, sender_of, receiver_of};
-ghost use Rattle.market_events.specs.Offers.{offer_of};
+ghost use Rattle.market_events.specs.Offers.{offer_of, taken_on};
 ghost use Rattle.market_events.specs.Requests.{lane_of};
 ghost use Rattle.market_events.specs.WellFormed.{IsBody, IsReply, IsRequest, IsRequestId, IsWellFormedEvent};
 ghost use Rattle.market_history.specs.Blocks.{with_what, with_out, Out};
@@ -92,6 +92,15 @@ impl Recorder {
         ensures { self.new ≡ record self.old { committed = length self.old.entries } }
     {
         self.committed = self.journal.entries().len();
+    }
+
+    // How many events were taken on a link into the node. It takes no memory.
+    pub fn taken(&self, link: Link) -> u32
+        requires link { IsLink link }
+        requires into { receiver_of link ≡ self.now.node }
+        ensures { result ≡ taken_on (events_taken self.now.entries) link }
+    {
+        self.received.taken(link)
     }
 
     // What becomes of an event that is offered to the node, into which its link leads.

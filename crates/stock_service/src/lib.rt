@@ -3,6 +3,7 @@
 #![tactic(auto)]
 
 mod cells;
+pub mod laws;
 mod level;
 mod levels;
 mod reserving;

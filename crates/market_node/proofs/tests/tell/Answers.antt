@@ -8,7 +8,7 @@ use Rattle.market_node.proofs.tests.tell.Goals as goal
 
 pub returns : goal.returns
 returns c =
-    let event : Event = record { link = Told 0 7; number = 1; clock = 4; past = c.zero.result; body = body.Told c.args.id reply.Removed } in
+    let event : Event = record { link = Told 0 7; number = c.args.number; clock = 4; past = c.zero.result; body = body.Told c.args.id reply.Removed } in
     record {
       grew = grew_told c.take.result c.args.lane.now c.take.new.self event c.args.id reply.Removed c.requires.small.node refl (omega arith)
           c.take.ensures.taken c.take.ensures.other c.take.ensures.err;

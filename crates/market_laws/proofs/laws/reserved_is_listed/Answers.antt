@@ -1,0 +1,12 @@
+-- By what stock took on link 8, and by the balance of what was made, taken and is outstanding on links 4, 5 and 8.
+use Rattle.market_events.proofs.StockRuns.{reserved-le-on_hand}
+use Rattle.market_laws.proofs.Listed.{reserved-listed, listed-wait, way-listed}
+use Rattle.market_laws.proofs.laws.reserved_is_listed.Goals as goal
+
+pub returns : goal.returns
+returns f = record {
+  sum = λ h key lawful. reserved-listed h lawful key;
+  waits = λ h lawful. listed-wait h lawful;
+  listed = λ h c lawful. way-listed h lawful c;
+  covered = reserved-le-on_hand;
+}

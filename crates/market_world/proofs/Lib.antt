@@ -1,0 +1,11 @@
+pub mod Arrivals
+pub mod Stepping
+pub mod Playing
+pub mod Linking
+pub mod Finding
+pub mod AllNodes
+pub mod Copying
+pub mod LaneOrder
+pub mod Ranges
+pub mod Dispatch
+pub mod SoundWorlds

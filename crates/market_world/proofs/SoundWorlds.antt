@@ -1,0 +1,30 @@
+-- Lawful histories are sound, and complete where no event is outstanding.
+use Rattle.market_events.specs.Links.{stock_node}
+use Rattle.market_events.specs.Services.{Role}
+use Rattle.market_events.proofs.StockRuns.{reserved-le-on_hand}
+use Rattle.market_history.specs.Blocks.{service_steps}
+use Rattle.market_history.specs.Histories.{Histories, journal_at}
+use Rattle.market_history.specs.Lawful.{IsLawful}
+use Rattle.market_history.specs.Outstanding.{IsSettled}
+use Rattle.market_laws.proofs.CutMade.{steps-run}
+use Rattle.market_laws.proofs.Listed.{reserved-listed, listed-wait}
+use Rattle.market_laws.proofs.SettledBook.{settled-book}
+use Rattle.market_laws.proofs.SettledDecided.{decided}
+use Rattle.market_laws.proofs.SettledLanes.{lanes-idle, kept-answered}
+use Rattle.market_world.specs.Sound.{IsSound, IsComplete}
+
+pub sound_of : (h : Histories) → IsLawful h → IsSound h
+sound_of h lawful = record {
+  lawful = lawful;
+  listed = λ key. reserved-listed h lawful key;
+  covered = λ key. reserved-le-on_hand (service_steps h Role.Stock) (steps-run stock_node (journal_at h stock_node)) key;
+  waits = listed-wait h lawful;
+}
+
+pub complete_of : (h : Histories) → IsLawful h → IsSettled h → IsComplete h
+complete_of h lawful settled = record {
+  idle = λ lane lt. lanes-idle h lawful settled lane lt;
+  answered = λ lane r lt here. kept-answered h lawful settled lane lt r here;
+  decided = λ c kept. decided h lawful settled c kept;
+  book = settled-book h lawful settled;
+}

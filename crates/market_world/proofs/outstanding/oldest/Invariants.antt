@@ -1,0 +1,8 @@
+-- The oldest on the links so far.
+use Rattle.std.proofs.Common.{◌<◌}
+use Rattle.market_history.specs.Lawful.{IsLawful}
+use Rattle.market_world.specs.Waiting.{IsFoundBelow}
+use Rattle.market_world.proofs.outstanding.oldest.Given as goal
+
+abbrev pub invariant-loop-index : goal.invariant-loop-index
+invariant-loop-index l = IsFoundBelow l.world l.index l.found × (0 < l.index → IsLawful l.world)

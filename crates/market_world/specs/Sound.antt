@@ -1,0 +1,37 @@
+-- What holds of a world at every moment, and what holds besides where no event is outstanding.
+use Rattle.std.specs.Prelude.{◌≡◌, ℕ, ◌<◌, ◌≤◌, false, true, is_some}
+use Rattle.std.specs.List.{AllByRecursion, sum_by}
+use Rattle.market_amounts.specs.declared.keys.ProductKey.{ProductKey}
+use Rattle.market_amounts.specs.declared.keys.RequestId.{RequestId}
+use Rattle.market_events.specs.declared.requests.Request.{Request}
+use Rattle.market_events.specs.Links.{lane_node}
+use Rattle.market_events.specs.Requests.{lanes}
+use Rattle.market_events.specs.Services.{Role}
+use Rattle.market_events.specs.Stocks.{Reservation, on_hand, pieces_of, reserved}
+use Rattle.market_history.specs.Blocks.{service_steps}
+use Rattle.market_history.specs.Book.{IsBook}
+use Rattle.market_history.specs.Checkouts.{is_kept_checkout, listed_reservations, IsDecided}
+use Rattle.market_history.specs.Histories.{Histories, journal_at}
+use Rattle.market_history.specs.Lawful.{IsLawful}
+use Rattle.market_history.specs.Once.{is_waiting, kept_by, reply_at}
+use Rattle.market_laws.specs.Runs.{Member}
+use Rattle.market_laws.specs.Settling.{on_its_way}
+
+-- at every moment
+pub record IsSound (h : Histories) : Type 0 where
+  pub lawful : IsLawful h
+  -- the pieces that stock has reserved are those of the listed reservations, and are on hand
+  pub listed : (key : ProductKey) → reserved (service_steps h Role.Stock) key ≡ sum_by (λ (r : Reservation). pieces_of key r.lines) (listed_reservations h)
+  pub covered : (key : ProductKey) → reserved (service_steps h Role.Stock) key ≤ on_hand (service_steps h Role.Stock) key
+  -- each of these waits for exactly one event that is outstanding
+  pub waits : AllByRecursion (λ (r : Reservation). on_its_way h r.checkout ≡ 1) (listed_reservations h)
+
+-- where no event is outstanding
+pub record IsComplete (h : Histories) : Type 0 where
+  -- no lane waits, and each kept request has its reply
+  pub idle : (lane : ℕ) → lane < lanes → is_waiting (journal_at h (lane_node lane)) ≡ false
+  pub answered : (lane : ℕ) (r : Request) → lane < lanes → Member r (kept_by h lane) → is_some (reply_at h r.id) ≡ true
+  -- each checkout is whole or undone
+  pub decided : (c : RequestId) → is_kept_checkout h c ≡ true → IsDecided h c
+  -- every table is the sum of what was accepted
+  pub book : IsBook h

@@ -1,0 +1,266 @@
+//! The cores of all nodes.
+
+ghost use Rattle.std.specs.Prelude.{◌≡◌, ◌<◌, IfOk};
+ghost use Rattle.std.specs.Option.{option_copied};
+ghost use Rattle.market_events.specs.Links.{IsLink, lane_node, sender_of as sender_by_link, receiver_of as receiver_by_link};
+ghost use Rattle.market_events.specs.Offers.{offer_of, taken_on};
+ghost use Rattle.market_events.specs.Requests.{lane_of};
+ghost use Rattle.market_events.specs.Services.{node_of};
+ghost use Rattle.market_history.specs.Blocks.{services};
+ghost use Rattle.market_history.specs.Causality.{events_taken};
+ghost use Rattle.market_history.specs.Histories.{journal_at, no_histories, with_journal};
+ghost use Rattle.market_history.specs.Schedule.{gave, offered};
+ghost use Rattle.market_node.specs.Notes.{event_with};
+ghost use Rattle.market_world.specs.Arriving.{CanTake, CanGive, after_offer_of, after_give_of};
+ghost use Rattle.market_world.specs.Cells.{cells_at};
+ghost use Rattle.market_world.specs.Starting.{IsNew};
+
+use crate::lanes::Lanes;
+use crate::places::{Place, place_of};
+use cart_service::Carts;
+use customer_service::Customers;
+use market_events::{Cell, Event, Link, Node, Offer, Request, Service, receiver_of, sender_of};
+use market_history::{Give, Journal};
+use market_node::NodeCore;
+use order_service::Orders;
+use payment_service::Payments;
+use product_service::Products;
+use seller_service::Sellers;
+use shipment_service::Shipments;
+use std::alloc::{AllocError, Global};
+use std::marker::Model;
+use stock_service::Stocks;
+
+const LANES: u32 = 16;
+
+// The cores of all nodes. Contracts see the entries of each, from node 0 on.
+#[derive(Drop)]
+pub struct Cores {
+    alloc: Global,
+    cart: NodeCore<Carts>,
+    product: NodeCore<Products>,
+    stock: NodeCore<Stocks>,
+    order: NodeCore<Orders>,
+    payment: NodeCore<Payments>,
+    shipment: NodeCore<Shipments>,
+    customer: NodeCore<Customers>,
+    seller: NodeCore<Sellers>,
+    lanes: Lanes,
+}
+
+impl Model for Cores {
+    ghost use Rattle.market_history.specs.Histories.{Histories};
+
+    ghost Value = { Histories };
+
+    ghost use Rattle.market_world.specs.CoresInside.{entries_by_node, AreInPlace};
+
+    ghost view = { entries_by_node };
+
+    ghost invariant = { AreInPlace };
+}
+
+impl Cores {
+    // The cores of all nodes, with nothing in their journals.
+    pub fn new(alloc: Global) -> Result<Cores, AllocError>
+        ensures { IfOk result (λ cores. cores ≡ no_histories) }
+    {
+        let FrontCores {
+            cart,
+            product,
+            stock,
+            order,
+        } = FrontCores::new(alloc)?;
+        let BackCores {
+            payment,
+            shipment,
+            customer,
+            seller,
+        } = BackCores::new(alloc)?;
+        let lanes = Lanes::new(alloc)?;
+        Ok(Cores {
+            alloc,
+            cart,
+            product,
+            stock,
+            order,
+            payment,
+            shipment,
+            customer,
+            seller,
+            lanes,
+        })
+    }
+
+    // The journal of a node. It takes no memory.
+    #[tactic(auto, using(crate::proofs::AllNodes::at_lane), unfolding(market_history::specs::Histories::journal_at))]
+    pub fn journal(&self, node: Node) -> &Journal
+        ensures node { result.now.node ≡ node }
+        ensures entries { result.now.entries ≡ journal_at self.now node }
+    {
+        match place_of(node) {
+            Place::Cart => self.cart.journal(),
+            Place::Product => self.product.journal(),
+            Place::Stock => self.stock.journal(),
+            Place::Order => self.order.journal(),
+            Place::Payment => self.payment.journal(),
+            Place::Shipment => self.shipment.journal(),
+            Place::Customer => self.customer.journal(),
+            Place::Seller => self.seller.journal(),
+            Place::Lane(lane) => self.lanes.journal(lane),
+        }
+    }
+
+    // The event of a link with this number, where its sender made one. It takes no memory.
+    #[tactic(auto, using(crate::proofs::AllNodes::at_lane), unfolding(market_history::specs::Histories::journal_at))]
+    pub fn event(&self, link: Link, number: u32) -> Option<&Event>
+        requires { IsLink link }
+        ensures { option_copied result ≡ event_with link number (journal_at self.now (sender_by_link link)) }
+    {
+        match place_of(sender_of(link)) {
+            Place::Cart => self.cart.event(link, number),
+            Place::Product => self.product.event(link, number),
+            Place::Stock => self.stock.event(link, number),
+            Place::Order => self.order.event(link, number),
+            Place::Payment => self.payment.event(link, number),
+            Place::Shipment => self.shipment.event(link, number),
+            Place::Customer => self.customer.event(link, number),
+            Place::Seller => self.seller.event(link, number),
+            Place::Lane(lane) => self.lanes.event(lane, link, number),
+        }
+    }
+
+    // How many events of a link its receiver took. It takes no memory.
+    #[tactic(auto, using(crate::proofs::AllNodes::at_lane), unfolding(market_history::specs::Histories::journal_at))]
+    pub fn taken(&self, link: Link) -> u32
+        requires { IsLink link }
+        ensures { result ≡ taken_on (events_taken (journal_at self.now (receiver_by_link link))) link }
+    {
+        match place_of(receiver_of(link)) {
+            Place::Cart => self.cart.taken(link),
+            Place::Product => self.product.taken(link),
+            Place::Stock => self.stock.taken(link),
+            Place::Order => self.order.taken(link),
+            Place::Payment => self.payment.taken(link),
+            Place::Shipment => self.shipment.taken(link),
+            Place::Customer => self.customer.taken(link),
+            Place::Seller => self.seller.taken(link),
+            Place::Lane(lane) => self.lanes.taken(lane, link),
+        }
+    }
+
+    // Offers an event to the receiver of its link. On want of memory, and where it is not taken, nothing changes.
+    pub fn take(&mut self, event: &Event) -> Result<Offer, AllocError>
+        requires { CanTake (receiver_by_link event.now.link) (journal_at self.old (receiver_by_link event.now.link)) event.now }
+        ensures offers { IfOk result (λ offer. offer ≡ offered self.old event.now) }
+        ensures after { self.new ≡ with_journal self.old (receiver_by_link event.now.link)
+            (after_offer_of (receiver_by_link event.now.link) (journal_at self.old (receiver_by_link event.now.link)) event.now result) }
+    {
+        match place_of(receiver_of(event.link)) {
+            Place::Cart => take_at(&mut self.cart, event),
+            Place::Product => take_at(&mut self.product, event),
+            Place::Stock => take_at(&mut self.stock, event),
+            Place::Order => take_at(&mut self.order, event),
+            Place::Payment => take_at(&mut self.payment, event),
+            Place::Shipment => take_at(&mut self.shipment, event),
+            Place::Customer => take_at(&mut self.customer, event),
+            Place::Seller => take_at(&mut self.seller, event),
+            Place::Lane(lane) => self.lanes.take(lane, event),
+        }
+    }
+
+    // Gives a request to its lane. On want of memory, and where it is not asked, nothing changes.
+    pub fn give(&mut self, request: &Request) -> Result<Give, AllocError>
+        requires { CanGive (lane_node (lane_of request.now.id)) (journal_at self.old (lane_node (lane_of request.now.id))) request.now }
+        ensures gives { IfOk result (λ give. give ≡ gave self.old request.now) }
+        ensures after { self.new ≡ with_journal self.old (lane_node (lane_of request.now.id))
+            (after_give_of (lane_node (lane_of request.now.id)) (journal_at self.old (lane_node (lane_of request.now.id))) request.now result) }
+    {
+        let lane = request.id.caller % LANES;
+        self.lanes.give(lane as usize, request)
+    }
+
+    // The cells of a service; a lane has none.
+    pub fn cells(&self, node: Node) -> Result<Vec<Cell>, AllocError>
+        ensures { IfOk result (λ cells. cells.items ≡ cells_at self.now node) }
+    {
+        match place_of(node) {
+            Place::Cart => self.cart.cells(),
+            Place::Product => self.product.cells(),
+            Place::Stock => self.stock.cells(),
+            Place::Order => self.order.cells(),
+            Place::Payment => self.payment.cells(),
+            Place::Shipment => self.shipment.cells(),
+            Place::Customer => self.customer.cells(),
+            Place::Seller => self.seller.cells(),
+            Place::Lane(_) => Ok(Vec::new(self.alloc)),
+        }
+    }
+}
+
+// The cores of the services up to the order of a checkout.
+struct FrontCores {
+    cart: NodeCore<Carts>,
+    product: NodeCore<Products>,
+    stock: NodeCore<Stocks>,
+    order: NodeCore<Orders>,
+}
+
+impl FrontCores {
+    fn new(alloc: Global) -> Result<FrontCores, AllocError>
+        ensures cart { IfOk result (λ cores. IsNew 0 cores.cart) }
+        ensures product { IfOk result (λ cores. IsNew 1 cores.product) }
+        ensures stock { IfOk result (λ cores. IsNew 2 cores.stock) }
+        ensures order { IfOk result (λ cores. IsNew 3 cores.order) }
+    {
+        Ok(FrontCores {
+            cart: NodeCore::new(alloc, node_at(0), Carts::new(alloc))?,
+            product: NodeCore::new(alloc, node_at(1), Products::new(alloc))?,
+            stock: NodeCore::new(alloc, node_at(2), Stocks::new(alloc))?,
+            order: NodeCore::new(alloc, node_at(3), Orders::new(alloc))?,
+        })
+    }
+}
+
+// The cores of the services from the payment of a checkout on.
+struct BackCores {
+    payment: NodeCore<Payments>,
+    shipment: NodeCore<Shipments>,
+    customer: NodeCore<Customers>,
+    seller: NodeCore<Sellers>,
+}
+
+impl BackCores {
+    fn new(alloc: Global) -> Result<BackCores, AllocError>
+        ensures payment { IfOk result (λ cores. IsNew 4 cores.payment) }
+        ensures shipment { IfOk result (λ cores. IsNew 5 cores.shipment) }
+        ensures customer { IfOk result (λ cores. IsNew 6 cores.customer) }
+        ensures seller { IfOk result (λ cores. IsNew 7 cores.seller) }
+    {
+        Ok(BackCores {
+            payment: NodeCore::new(alloc, node_at(4), Payments::new(alloc))?,
+            shipment: NodeCore::new(alloc, node_at(5), Shipments::new(alloc))?,
+            customer: NodeCore::new(alloc, node_at(6), Customers::new(alloc))?,
+            seller: NodeCore::new(alloc, node_at(7), Sellers::new(alloc))?,
+        })
+    }
+}
+
+// The node of the service with this number.
+fn node_at(service: u8) -> Node
+    requires { service < services }
+    ensures { result ≡ service }
+{
+    sender_of(Link::Told(service, 0))
+}
+
+// Offers an event to the core of a service.
+fn take_at<S: Service>(core: &mut NodeCore<S>, event: &Event) -> Result<Offer, AllocError>
+    requires service { core.old.node ≡ node_of S.role }
+    requires can { CanTake core.old.node core.old.entries event.now }
+    ensures offers { IfOk result (λ offer. offer ≡ offer_of core.old.node (events_taken core.old.entries) event.now) }
+    ensures node { core.new.node ≡ core.old.node }
+    ensures after { core.new.entries ≡ after_offer_of core.old.node core.old.entries event.now result }
+{
+    core.take(event)
+}
