@@ -42,7 +42,7 @@ use Rattle.market_laws.proofs.ProperLaws.{histories_are}
 use Rattle.market_laws.proofs.RowAll.{services-fit, lanes-in_time}
 use Rattle.market_laws.proofs.TakenMade.{StandsAt}
 use Rattle.market_node.specs.Keeping.{IsAwaitedBy}
-use Rattle.market_world.specs.Arriving.{CanTake, CanGive}
+use Rattle.market_world.specs.Arriving.{CanOffer, CanGive}
 
 -- the last clock is no greater than a bound of all
 last_few : (top : ℕ) (o : Option Entry) (xs : List Entry) → clock_in o ≤ top → AllByRecursion (λ (x : Entry). x.clock ≤ top) xs → clock_in (last_or o xs) ≤ top
@@ -112,7 +112,7 @@ module _ (h : Histories) (lawful : IsLawful h) where
     awaited_there : IsAwaitedBy (journal_at h n) event.body
     awaited_there = awaited_of (journal_at h n) event.body (of_each (λ before (x : Entry). InTimeAfter before x.what) (lanes-in_time after after_lawful n node_lt))
 
-  pub can_take : (link : Link) (number : ℕ) → IsLink link → (event : Event) → event_at h link number ≡ Some event → CanTake (receiver_of event.link) (journal_at h (receiver_of event.link)) event
+  pub can_take : (link : Link) (number : ℕ) → IsLink link → (event : Event) → event_at h link number ≡ Some event → CanOffer (receiver_of event.link) (journal_at h (receiver_of event.link)) event
   can_take link number on event found =
       let made = made_there link number on event found in
       let lt : receiver_of event.link < nodes = receiver-small event.link (subst IsLink (sym made.on) on) in

@@ -1,6 +1,6 @@
 -- The first events that wait, link by link, and the oldest of them.
-use Rattle.std.proofs.Common.{◌≡◌, ℕ, ◌+◌, ◌^◌, ◌<◌, ◌≤◌, ◌==◌, ◌&&◌, ◌||◌, Bool, true, false, nat_le, nat_lt, List, [], ◌∷◌, ◌++◌, Option, Some, None, is_some, Bor, length, if◌then◌else◌, eqb-true, refl, ap, sym, ◌∙◌, subst, arith}
-use Rattle.std.specs.Prelude.{slice_get}
+use Rattle.std.proofs.Common.{◌≡◌, ℕ, ◌+◌, ◌^◌, ◌<◌, ◌≤◌, ◌==◌, Bool, true, false, List, [], ◌∷◌, ◌++◌, Option, Some, None, is_some, Bor, length, if◌then◌else◌, eqb-true, refl, ap, sym, ◌∙◌, subst, arith}
+use Rattle.std.specs.Prelude.{slice_get, IfSome}
 use Rattle.std.specs.Option.{option_copied}
 use Rattle.std.specs.List.{AllByRecursion}
 use Rattle.std.proofs.lemmas.Bool.{eqb-false}
@@ -22,9 +22,7 @@ use Rattle.market_laws.proofs.OldestPlaces.{came, sent-parts, numbered, out-at}
 use Rattle.market_laws.proofs.OldestWalk.{comes_other, no_later-through, own_later}
 use Rattle.market_node.specs.Notes.{event_with}
 use Rattle.market_node.proofs.PlaceLaws.{event_with-at}
-use Rattle.market_world.specs.declared.outstanding.Waiting.{Waiting}
-use Rattle.market_world.specs.Older.{waits_no_later, waiting_on, older_than, older_of}
-use Rattle.market_world.specs.Waiting.{links_many, first_of, AreSettledBelow, IsOldestBelow, IsFoundBelow}
+use Rattle.market_world.specs.Waiting.{links_many, first_of, older_of, AreSettledBelow, IsOldestBelow, IsFoundBelow}
 use Rattle.market_world.proofs.Linking.{one_index, index_small}
 
 -- the element after a list is the first of what follows
@@ -87,88 +85,83 @@ module _ (h : Histories) (lawful : IsLawful h) where
   abbrev AllLater : Event → List Event → Type 0
   AllLater event events = AllByRecursion (λ (e : Event). is_no_later event e ≡ true) events
 
+  -- the first event that waits on a link is of that link
+  link-of_first : (link : Link) → IsLink link → (event : Event) (rest : List Event) → outstanding h link ≡ event ∷ rest → event.link ≡ link
+  link-of_first link on event rest out = let here = out-at h lawful link on [] event rest out in here.on
+
+  pub first-is_link : (link : Link) → IsLink link → (first : Option Event) → first ≡ first_of h link → IfSome first (λ event. IsLink event.link)
+  first-is_link link on None is = tt
+  first-is_link link on (Some event) is =
+      let out = some_of (outstanding h link) event (sym is) in
+      subst IsLink (sym (link-of_first link on event out.0 out.1)) on
+
   module _ (n : ℕ) (link : Link) (on : IsLink link) (is : index_of link ≡ n) where
     -- nothing waits on the link
-    still : (waiting : Waiting) → IsOldestBelow h n waiting → outstanding h link ≡ [] → IsOldestBelow h (n + 1) waiting
-    still waiting o none = record {
+    still : (before : Event) → IsOldestBelow h n before → outstanding h link ≡ [] → IsOldestBelow h (n + 1) before
+    still before o none = record {
       on = o.on;
-      event = o.event;
-      number = o.number;
-      clock = o.clock;
       rest = o.rest;
       first = o.first;
-      least = one_more (λ l. AllLater o.event (outstanding h l)) n link on is o.least (subst (AllLater o.event) (sym none) tt);
+      least = one_more (λ l. AllLater before (outstanding h l)) n link on is o.least (subst (AllLater before) (sym none) tt);
     }
 
     -- its first event is the oldest
-    newer : (event : Event) (rest : List Event) → outstanding h link ≡ event ∷ rest → ((l : Link) → IsLink l → index_of l < n → AllLater event (outstanding h l)) → IsOldestBelow h (n + 1) (waiting_on link event)
-    newer event rest out below = record {
-      on = on;
-      event = event;
-      number = refl;
-      clock = refl;
-      rest = rest;
-      first = out;
-      least = one_more (λ l. AllLater event (outstanding h l)) n link on is below (subst (AllLater event) (sym out) (own_later h lawful link on event rest out));
-    }
+    newer : (event : Event) (rest : List Event) → outstanding h link ≡ event ∷ rest → ((l : Link) → IsLink l → index_of l < n → AllLater event (outstanding h l)) → IsOldestBelow h (n + 1) event
+    newer event rest out below =
+        let same = sym (link-of_first link on event rest out) in
+        record {
+          on = subst IsLink same on;
+          rest = rest;
+          first = subst (λ l. outstanding h l ≡ event ∷ rest) same out;
+          least = one_more (λ l. AllLater event (outstanding h l)) n link on is below (subst (AllLater event) (sym out) (own_later h lawful link on event rest out));
+        }
 
     -- the oldest so far, and the first event of the link
-    module _ (waiting : Waiting) (o : IsOldestBelow h n waiting) (event : Event) (rest : List Event) (out : outstanding h link ≡ event ∷ rest) where
-      test_is : waits_no_later waiting (waiting_on link event) ≡ is_no_later o.event event
-      test_is =
-          let before = out-at h lawful waiting.link o.on [] o.event o.rest o.first in
-          let here = out-at h lawful link on [] event rest out in
-          ap (λ clock. nat_lt clock event.clock || ((clock == event.clock) && nat_le (sender_of waiting.link) (sender_of link))) (sym o.clock)
-          ∙ ap (λ l. nat_lt o.event.clock event.clock || ((o.event.clock == event.clock) && nat_le (sender_of l) (sender_of link))) (sym before.on)
-          ∙ ap (λ l. nat_lt o.event.clock event.clock || ((o.event.clock == event.clock) && nat_le (sender_of o.event.link) (sender_of l))) (sym here.on)
-
+    module _ (before : Event) (o : IsOldestBelow h n before) (event : Event) (rest : List Event) (out : outstanding h link ≡ event ∷ rest) where
       later_of : (e f : Event) → is_no_later e f ≡ true → (events : List Event) → AllLater f events → AllLater e events
       later_of e f one events each = all-weaker (λ (g : Event). is_no_later f g ≡ true) (λ (g : Event). is_no_later e g ≡ true) (λ g two. no_later-through e f g one two) events each
 
-      kept : is_no_later o.event event ≡ true → IsOldestBelow h (n + 1) waiting
+      kept : is_no_later before event ≡ true → IsOldestBelow h (n + 1) before
       kept earlier = record {
         on = o.on;
-        event = o.event;
-        number = o.number;
-        clock = o.clock;
         rest = o.rest;
         first = o.first;
-        least = one_more (λ l. AllLater o.event (outstanding h l)) n link on is o.least
-            (later_of o.event event earlier (outstanding h link) (subst (AllLater event) (sym out) (own_later h lawful link on event rest out)));
+        least = one_more (λ l. AllLater before (outstanding h l)) n link on is o.least
+            (later_of before event earlier (outstanding h link) (subst (AllLater event) (sym out) (own_later h lawful link on event rest out)));
       }
 
-      taken_over : is_no_later o.event event ≡ false → IsOldestBelow h (n + 1) (waiting_on link event)
+      taken_over : is_no_later before event ≡ false → IsOldestBelow h (n + 1) event
       taken_over later =
-          let before : is_no_later event o.event ≡ true = comes_other o.event.clock (sender_of o.event.link) event.clock (sender_of event.link) later in
-          newer event rest out (λ l other less. later_of event o.event before (outstanding h l) (o.least l other less))
+          let other_way : is_no_later event before ≡ true = comes_other before.clock (sender_of before.link) event.clock (sender_of event.link) later in
+          newer event rest out (λ l other less. later_of event before other_way (outstanding h l) (o.least l other less))
 
-      older-of_both : IsOldestBelow h (n + 1) (older_than (Some waiting) (waiting_on link event))
-      older-of_both = by (waits_no_later waiting (waiting_on link event)) refl
+      older-of_both : IsOldestBelow h (n + 1) (if is_no_later before event then before else event)
+      older-of_both = by (is_no_later before event) refl
         where
-          by : (test : Bool) → waits_no_later waiting (waiting_on link event) ≡ test → IsOldestBelow h (n + 1) (if test then waiting else waiting_on link event)
-          by true test = kept (sym test_is ∙ test)
-          by false test = taken_over (sym test_is ∙ test)
+          by : (test : Bool) → is_no_later before event ≡ test → IsOldestBelow h (n + 1) (if test then before else event)
+          by true test = kept test
+          by false test = taken_over test
 
     -- whichever waits
-    pub older-found : (found : Option Waiting) (first : Option Event) → IsFoundBelow h n found → first_of h link ≡ first → IsFoundBelow h (n + 1) (older_of found link first)
+    pub older-found : (found first : Option Event) → IsFoundBelow h n found → first_of h link ≡ first → IsFoundBelow h (n + 1) (older_of found first)
     older-found None None below none = settled-more h n link on is below none
-    older-found (Some waiting) None o none = still waiting o (none_of (outstanding h link) none)
+    older-found (Some before) None o none = still before o (none_of (outstanding h link) none)
     older-found None (Some event) below some =
         let out = some_of (outstanding h link) event some in
         newer event out.0 out.1 (λ l other less. subst (AllLater event) (sym (below l other less)) tt)
-    older-found (Some waiting) (Some event) o some =
+    older-found (Some before) (Some event) o some =
         let out = some_of (outstanding h link) event some in
-        older-of_both waiting o event out.0 out.1
+        older-of_both before o event out.0 out.1
 
   -- after all links
-  pub oldest-of_all : (waiting : Waiting) → IsOldestBelow h links_many waiting → IsOldest h waiting.link waiting.number
-  oldest-of_all waiting o = record {
-    event = o.event;
-    named = o.number;
+  pub oldest-of_all : (event : Event) → IsOldestBelow h links_many event → IsOldest h event.link event.number
+  oldest-of_all event o = record {
+    event = event;
+    named = refl;
     rest = o.rest;
     first = o.first;
     least = λ other on. o.least other on (index_small other on);
   }
 
-  pub oldest-waits : (waiting : Waiting) → IsOldestBelow h links_many waiting → IsSettled h → ⊥
-  oldest-waits waiting o settled = let none = settled waiting.link o.on in let some = o.first in let no : ⊥ = cc in no
+  pub oldest-waits : (event : Event) → IsOldestBelow h links_many event → IsSettled h → ⊥
+  oldest-waits event o settled = let none = settled event.link o.on in let some = o.first in let no : ⊥ = cc in no

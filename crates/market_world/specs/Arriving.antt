@@ -21,7 +21,7 @@ use Rattle.market_node.specs.Keeping.{IsAwaitedBy}
 
 -- the event can be offered to the node with this journal: it leads there, its numbers and those of the journal are in their
 -- ranges, and where it is taken it fits a service, and is awaited by a lane
-pub record CanTake (n : ℕ) (entries : List Entry) (event : Event) : Type 0 where
+pub record CanOffer (n : ℕ) (entries : List Entry) (event : Event) : Type 0 where
   pub event_is : IsEvent event
   pub formed : IsWellFormedEvent event
   pub into : receiver_of event.link ≡ n

@@ -5,5 +5,4 @@ pub mod LanesInside
 pub mod CoresInside
 pub mod Cells
 pub mod Waiting
-pub mod Older
 pub mod Sound

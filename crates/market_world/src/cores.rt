@@ -11,7 +11,7 @@ ghost use Rattle.market_history.specs.Causality.{events_taken};
 ghost use Rattle.market_history.specs.Histories.{journal_at, no_histories, with_journal};
 ghost use Rattle.market_history.specs.Schedule.{gave, offered};
 ghost use Rattle.market_node.specs.Notes.{event_with};
-ghost use Rattle.market_world.specs.Arriving.{CanTake, CanGive, after_offer_of, after_give_of};
+ghost use Rattle.market_world.specs.Arriving.{CanOffer, CanGive, after_offer_of, after_give_of};
 ghost use Rattle.market_world.specs.Cells.{cells_at};
 ghost use Rattle.market_world.specs.Starting.{IsNew};
 
@@ -151,7 +151,7 @@ impl Cores {
 
     // Offers an event to the receiver of its link. On want of memory, and where it is not taken, nothing changes.
     pub fn take(&mut self, event: &Event) -> Result<Offer, AllocError>
-        requires { CanTake (receiver_by_link event.now.link) (journal_at self.old (receiver_by_link event.now.link)) event.now }
+        requires { CanOffer (receiver_by_link event.now.link) (journal_at self.old (receiver_by_link event.now.link)) event.now }
         ensures offers { IfOk result (λ offer. offer ≡ offered self.old event.now) }
         ensures after { self.new ≡ with_journal self.old (receiver_by_link event.now.link)
             (after_offer_of (receiver_by_link event.now.link) (journal_at self.old (receiver_by_link event.now.link)) event.now result) }
@@ -257,7 +257,7 @@ fn node_at(service: u8) -> Node
 // Offers an event to the core of a service.
 fn take_at<S: Service>(core: &mut NodeCore<S>, event: &Event) -> Result<Offer, AllocError>
     requires service { core.old.node ≡ node_of S.role }
-    requires can { CanTake core.old.node core.old.entries event.now }
+    requires can { CanOffer core.old.node core.old.entries event.now }
     ensures offers { IfOk result (λ offer. offer ≡ offer_of core.old.node (events_taken core.old.entries) event.now) }
     ensures node { core.new.node ≡ core.old.node }
     ensures after { core.new.entries ≡ after_offer_of core.old.node core.old.entries event.now result }

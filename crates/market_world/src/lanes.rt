@@ -7,7 +7,7 @@ ghost use Rattle.market_events.specs.Offers.{offer_of, taken_on};
 ghost use Rattle.market_history.specs.Causality.{events_taken};
 ghost use Rattle.market_history.specs.Once.{give_of};
 ghost use Rattle.market_node.specs.Notes.{event_with};
-ghost use Rattle.market_world.specs.Arriving.{CanTake, CanGive, after_offer_of, after_give_of};
+ghost use Rattle.market_world.specs.Arriving.{CanOffer, CanGive, after_offer_of, after_give_of};
 ghost use Rattle.market_world.specs.LanesInside.{lanes_many};
 
 use market_events::{Event, Link, Offer, Request};
@@ -81,7 +81,7 @@ impl Lanes {
     // Offers an event to a lane.
     pub fn take(&mut self, lane: usize, event: &Event) -> Result<Offer, AllocError>
         requires lane { lane < lanes_many }
-        requires can { CanTake (lane_node lane) (slice_index_or self.old lane []) event.now }
+        requires can { CanOffer (lane_node lane) (slice_index_or self.old lane []) event.now }
         ensures offers { IfOk result (λ offer. offer ≡ offer_of (lane_node lane) (events_taken (slice_index_or self.old lane [])) event.now) }
         ensures after { self.new ≡ slice_set self.old lane (after_offer_of (lane_node lane) (slice_index_or self.old lane []) event.now result) }
     {
@@ -101,7 +101,7 @@ impl Lanes {
 
 // Offers an event to the core of a lane.
 fn take_at(core: &mut LaneCore, event: &Event) -> Result<Offer, AllocError>
-    requires { CanTake core.old.node core.old.entries event.now }
+    requires { CanOffer core.old.node core.old.entries event.now }
     ensures offers { IfOk result (λ offer. offer ≡ offer_of core.old.node (events_taken core.old.entries) event.now) }
     ensures node { core.new.node ≡ core.old.node }
     ensures after { core.new.entries ≡ after_offer_of core.old.node core.old.entries event.now result }

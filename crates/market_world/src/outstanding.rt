@@ -6,22 +6,14 @@ ghost use Rattle.market_events.specs.declared.events.Offer.TheVariants as offer;
 ghost use Rattle.market_events.specs.Links.{IsLink};
 ghost use Rattle.market_history.specs.declared.schedule.Outcome.TheVariants as outcome;
 ghost use Rattle.market_history.specs.declared.schedule.Step.TheVariants as step;
-ghost use Rattle.market_history.specs.Outstanding.{IsSettled, IsOldest};
+ghost use Rattle.market_history.specs.Outstanding.{IsSettled, IsOldest, is_no_later};
 ghost use Rattle.market_history.specs.Schedule.{outcome_of};
 ghost use Rattle.market_world.specs.Sound.{IsComplete};
-ghost use Rattle.market_world.specs.Older.{older_of, waits_no_later};
+ghost use Rattle.market_world.specs.Waiting.{older_of};
 
 use crate::links::{LINKS, link_at};
 use crate::world::World;
 use market_events::{Event, Link, sender_of};
-
-// An event that waits to be taken.
-#[derive(Clone, Copy)]
-pub struct Waiting {
-    pub link: Link,
-    pub number: u32,
-    pub clock: u64,
-}
 
 /// Whether no event is outstanding: each that was made was taken. Then every kept request has its reply, every checkout is
 /// whole or undone, and every table is the sum of what was accepted. It takes no memory.
@@ -45,40 +37,34 @@ pub fn oldest(world: &World) -> Option<(Link, u32)>
     ensures oldest { IfSome result (λ found. IsOldest world.now found.0 found.1) }
     ensures taken { IfSome result (λ found. outcome_of world.now (step.Offer found.0 found.1) ≡ outcome.Offered offer.Take) }
 {
-    let mut found: Option<Waiting> = None;
+    let mut found: Option<&Event> = None;
     for index in 0..LINKS {
-        let link = link_at(index);
-        found = older(found, link, world.waiting(link));
+        found = older(found, world.waiting(link_at(index)));
     }
-    let Waiting { link, number, .. } = found?;
-    Some((link, number))
+    let event = found?;
+    Some((event.link, event.number))
 }
 
-// The older of the event that waits, where one does, and of the first event of the link, where there is one.
-fn older(found: Option<Waiting>, link: Link, first: Option<&Event>) -> Option<Waiting>
-    requires before { IfSome found (λ before. IsLink before.link) }
-    requires link { IsLink link }
-    ensures { result ≡ older_of found link (option_copied first.entry) }
+// The older of two events, where there are any.
+fn older<'a>(found: Option<&'a Event>, first: Option<&'a Event>) -> Option<&'a Event>
+    requires found { IfSome (option_copied found) (λ before. IsLink before.link) }
+    requires first { IfSome (option_copied first) (λ event. IsLink event.link) }
+    ensures { option_copied result ≡ older_of (option_copied found.entry) (option_copied first.entry) }
 {
     let Some(event) = first else {
         return found;
     };
-    let waiting = Waiting {
-        link,
-        number: event.number,
-        clock: event.clock,
-    };
     match found {
-        Some(before) if is_no_later(&before, &waiting) => Some(before),
-        _ => Some(waiting),
+        Some(before) if is_no_later(before, event) => Some(before),
+        _ => Some(event),
     }
 }
 
 // Whether the first comes before the second, or with it: by clock, and by the sender where the clocks are equal.
-fn is_no_later(a: &Waiting, b: &Waiting) -> bool
+fn is_no_later(a: &Event, b: &Event) -> bool
     requires first { IsLink a.now.link }
     requires second { IsLink b.now.link }
-    ensures { result ≡ waits_no_later a.now b.now }
+    ensures { result ≡ is_no_later a.now b.now }
 {
     a.clock < b.clock || (a.clock == b.clock && sender_of(a.link).get() <= sender_of(b.link).get())
 }

@@ -5,7 +5,7 @@ use Rattle.market_events.specs.Links.{lane_node, receiver_of}
 use Rattle.market_events.specs.Offers.{offer_of}
 use Rattle.market_history.specs.Causality.{events_taken}
 use Rattle.market_history.specs.Histories.{journal_at, with_journal}
-use Rattle.market_world.specs.Arriving.{CanTake, after_offer_of}
+use Rattle.market_world.specs.Arriving.{CanOffer, after_offer_of}
 use Rattle.market_world.specs.CoresInside.{entries_by_node}
 use Rattle.market_world.proofs.AllNodes.{at_lane, set_lane}
 use Rattle.market_world.proofs.Dispatch.{of_node, at_node, left_at}
@@ -15,7 +15,7 @@ pub take_at-requires-clause-can : goal.take_at-requires-clause-can
 unfolding journal_at
 take_at-requires-clause-can c =
     at_node (entries_by_node c.self.inside) c.args.self.now c.self.view_is 0 (receiver_of c.args.event.now.link) (c.in-Cart.ensures.node ∙ c.receiver_of.ensures)
-    c.self.inside.cart.node c.self.inside.cart.entries c.self.invariant.cart refl (λ n entries. CanTake n entries c.args.event.now) c.requires
+    c.self.inside.cart.node c.self.inside.cart.entries c.self.invariant.cart refl (λ n entries. CanOffer n entries c.args.event.now) c.requires
 
 pub returns-in-Cart-clause-offers : goal.returns-in-Cart-clause-offers
 unfolding journal_at
@@ -35,7 +35,7 @@ pub take_at-requires-in-Product-clause-can : goal.take_at-requires-in-Product-cl
 unfolding journal_at
 take_at-requires-in-Product-clause-can c =
     at_node (entries_by_node c.self.inside) c.args.self.now c.self.view_is 1 (receiver_of c.args.event.now.link) (c.in-Product.ensures.node ∙ c.receiver_of.ensures)
-    c.self.inside.product.node c.self.inside.product.entries c.self.invariant.product refl (λ n entries. CanTake n entries c.args.event.now) c.requires
+    c.self.inside.product.node c.self.inside.product.entries c.self.invariant.product refl (λ n entries. CanOffer n entries c.args.event.now) c.requires
 
 pub returns-in-Product-clause-offers : goal.returns-in-Product-clause-offers
 unfolding journal_at
@@ -55,7 +55,7 @@ pub take_at-requires-in-Stock-clause-can : goal.take_at-requires-in-Stock-clause
 unfolding journal_at
 take_at-requires-in-Stock-clause-can c =
     at_node (entries_by_node c.self.inside) c.args.self.now c.self.view_is 2 (receiver_of c.args.event.now.link) (c.in-Stock.ensures.node ∙ c.receiver_of.ensures)
-    c.self.inside.stock.node c.self.inside.stock.entries c.self.invariant.stock refl (λ n entries. CanTake n entries c.args.event.now) c.requires
+    c.self.inside.stock.node c.self.inside.stock.entries c.self.invariant.stock refl (λ n entries. CanOffer n entries c.args.event.now) c.requires
 
 pub returns-in-Stock-clause-offers : goal.returns-in-Stock-clause-offers
 unfolding journal_at
@@ -75,7 +75,7 @@ pub take_at-requires-in-Order-clause-can : goal.take_at-requires-in-Order-clause
 unfolding journal_at
 take_at-requires-in-Order-clause-can c =
     at_node (entries_by_node c.self.inside) c.args.self.now c.self.view_is 3 (receiver_of c.args.event.now.link) (c.in-Order.ensures.node ∙ c.receiver_of.ensures)
-    c.self.inside.order.node c.self.inside.order.entries c.self.invariant.order refl (λ n entries. CanTake n entries c.args.event.now) c.requires
+    c.self.inside.order.node c.self.inside.order.entries c.self.invariant.order refl (λ n entries. CanOffer n entries c.args.event.now) c.requires
 
 pub returns-in-Order-clause-offers : goal.returns-in-Order-clause-offers
 unfolding journal_at
@@ -95,7 +95,7 @@ pub take_at-requires-in-Payment-clause-can : goal.take_at-requires-in-Payment-cl
 unfolding journal_at
 take_at-requires-in-Payment-clause-can c =
     at_node (entries_by_node c.self.inside) c.args.self.now c.self.view_is 4 (receiver_of c.args.event.now.link) (c.in-Payment.ensures.node ∙ c.receiver_of.ensures)
-    c.self.inside.payment.node c.self.inside.payment.entries c.self.invariant.payment refl (λ n entries. CanTake n entries c.args.event.now) c.requires
+    c.self.inside.payment.node c.self.inside.payment.entries c.self.invariant.payment refl (λ n entries. CanOffer n entries c.args.event.now) c.requires
 
 pub returns-in-Payment-clause-offers : goal.returns-in-Payment-clause-offers
 unfolding journal_at
@@ -115,7 +115,7 @@ pub take_at-requires-in-Shipment-clause-can : goal.take_at-requires-in-Shipment-
 unfolding journal_at
 take_at-requires-in-Shipment-clause-can c =
     at_node (entries_by_node c.self.inside) c.args.self.now c.self.view_is 5 (receiver_of c.args.event.now.link) (c.in-Shipment.ensures.node ∙ c.receiver_of.ensures)
-    c.self.inside.shipment.node c.self.inside.shipment.entries c.self.invariant.shipment refl (λ n entries. CanTake n entries c.args.event.now) c.requires
+    c.self.inside.shipment.node c.self.inside.shipment.entries c.self.invariant.shipment refl (λ n entries. CanOffer n entries c.args.event.now) c.requires
 
 pub returns-in-Shipment-clause-offers : goal.returns-in-Shipment-clause-offers
 unfolding journal_at
@@ -135,7 +135,7 @@ pub take_at-requires-in-Customer-clause-can : goal.take_at-requires-in-Customer-
 unfolding journal_at
 take_at-requires-in-Customer-clause-can c =
     at_node (entries_by_node c.self.inside) c.args.self.now c.self.view_is 6 (receiver_of c.args.event.now.link) (c.in-Customer.ensures.node ∙ c.receiver_of.ensures)
-    c.self.inside.customer.node c.self.inside.customer.entries c.self.invariant.customer refl (λ n entries. CanTake n entries c.args.event.now) c.requires
+    c.self.inside.customer.node c.self.inside.customer.entries c.self.invariant.customer refl (λ n entries. CanOffer n entries c.args.event.now) c.requires
 
 pub returns-in-Customer-clause-offers : goal.returns-in-Customer-clause-offers
 unfolding journal_at
@@ -155,7 +155,7 @@ pub take_at-requires-in-Seller-clause-can : goal.take_at-requires-in-Seller-clau
 unfolding journal_at
 take_at-requires-in-Seller-clause-can c =
     at_node (entries_by_node c.self.inside) c.args.self.now c.self.view_is 7 (receiver_of c.args.event.now.link) (c.in-Seller.ensures.node ∙ c.receiver_of.ensures)
-    c.self.inside.seller.node c.self.inside.seller.entries c.self.invariant.seller refl (λ n entries. CanTake n entries c.args.event.now) c.requires
+    c.self.inside.seller.node c.self.inside.seller.entries c.self.invariant.seller refl (λ n entries. CanOffer n entries c.args.event.now) c.requires
 
 pub returns-in-Seller-clause-offers : goal.returns-in-Seller-clause-offers
 unfolding journal_at
@@ -176,7 +176,7 @@ take-requires-clause-can c =
     at_node (entries_by_node c.self.inside) c.args.self.now c.self.view_is (lane_node c.in-Lane.lane) (receiver_of c.args.event.now.link) (c.in-Lane.ensures.node ∙ c.receiver_of.ensures)
     (lane_node c.in-Lane.lane) (slice_index_or c.self.inside.lanes c.in-Lane.lane []) refl
     (at_lane c.self.inside.cart.entries c.self.inside.product.entries c.self.inside.stock.entries c.self.inside.order.entries
-    c.self.inside.payment.entries c.self.inside.shipment.entries c.self.inside.customer.entries c.self.inside.seller.entries c.self.inside.lanes c.in-Lane.lane) (λ n entries. CanTake n entries c.args.event.now) c.requires
+    c.self.inside.payment.entries c.self.inside.shipment.entries c.self.inside.customer.entries c.self.inside.seller.entries c.self.inside.lanes c.in-Lane.lane) (λ n entries. CanOffer n entries c.args.event.now) c.requires
 
 pub returns-in-Lane-clause-offers : goal.returns-in-Lane-clause-offers
 returns-in-Lane-clause-offers c =

@@ -1,14 +1,14 @@
 use Rattle.std.proofs.Common.{◌≡◌, IfOk, ◌∙◌}
 use Rattle.market_events.specs.Offers.{offer_of}
 use Rattle.market_history.specs.Causality.{events_taken}
-use Rattle.market_world.specs.Arriving.{CanTake, after_offer_of}
+use Rattle.market_world.specs.Arriving.{CanOffer, after_offer_of}
 use Rattle.market_world.proofs.LaneOrder.{node_there, order_kept, of_lane, of_core, left_there}
 use Rattle.market_world.proofs.lanes.Lanes.take.Goals as goal
 
 pub take_at-requires : goal.take_at-requires
 take_at-requires c =
     of_core c.self.inside.lanes.items c.self.invariant c.args.lane c.requires.lane c.args.self.now c.self.view_is c.index_mut.result.now c.index_mut.ensures.value
-    (λ n entries. CanTake n entries c.args.event.now) c.requires.can
+    (λ n entries. CanOffer n entries c.args.event.now) c.requires.can
 
 pub invariant_of-self : goal.invariant_of-self
 invariant_of-self c =
