@@ -31,10 +31,11 @@ use Rattle.market_events.proofs.ListLaws.{and_from, or_true, or_false}
 use Rattle.market_events.proofs.SameLaws.{same_id-self}
 use Rattle.market_events.proofs.StepLaws.{changes_taken-same, changes_taken-push, any_made-push, any_taken-push}
 use Rattle.market_history.specs.Acts.{Acts, BasketAct, line_at, basket_by, cart_table}
+use Rattle.market_laws.proofs.BookBaskets.{find-basket_by, is_sorted-basket_by}
 use Rattle.market.specs.Agreeing.{CartsAgree}
 use Rattle.market.specs.Carrying.{IsFresh, most_made}
 use Rattle.market_history.specs.Sequential.{with_left}
-use Rattle.market.proofs.Baskets.{line_at-left, line_at-emptied, find-basket_by, is_sorted-basket_by}
+use Rattle.market.proofs.Baskets.{line_at-left, line_at-emptied}
 use Rattle.market.proofs.Fresh.{fits_by, few_before, few_after_one, none_ended}
 
 module _ (steps : List Step) (acts : Acts) (agree : CartsAgree steps acts) where

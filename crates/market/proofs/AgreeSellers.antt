@@ -30,12 +30,12 @@ use Rattle.market_events.proofs.SellerSteps.{answers-seller}
 use Rattle.market_events.proofs.StepLaws.{any_taken-push, is_taken-same, is_taken-push, is_settled-push}
 use Rattle.market_events.proofs.StockRuns.{checkout_formed-lines, lines_formed-rise}
 use Rattle.market_history.specs.Acts.{Acts, lines_if, lines_of, seller_table}
+use Rattle.market_laws.proofs.RunsPoint.{own-keys}
 use Rattle.market.specs.Agreeing.{SellersAgree}
 use Rattle.market.specs.Carrying.{IsFresh, most_made}
 use Rattle.market_history.specs.Sequential.{entries_unpaid, entries_whole, entry_delivered}
 use Rattle.market.proofs.Checkouts.{lines-whole, lines-unpaid, is_line_in, line_among, all_weaker}
 use Rattle.market.proofs.Fresh.{same_number, fits_by, few_before, few_after_one, few_after_two, none_invoiced, none_settled, none_shipped}
-use Rattle.market.proofs.LineKeys.{with_own_keys}
 
 module _ (steps : List Step) (acts : Acts) (agree : SellersAgree steps acts) where
   table_same : seller_sums steps ≡ seller_table acts
@@ -172,7 +172,7 @@ module _ (steps : List Step) (acts : Acts) (agree : SellersAgree steps acts) (id
   seller_shipment_made = answers-seller sellers_paid (Service 14) (body.Shipped id)
 
   paid_lines : lines_with_keys (invoice_lines (taken_bodies sellers_invoiced) id) (map (λ (line : PricedLine). line.key) lines) ≡ lines
-  paid_lines = ap (λ own. lines_with_keys own (map (λ (line : PricedLine). line.key) lines)) own_lines ∙ with_own_keys lines (lines_formed-rise lines (checkout_formed-lines id customer lines formed))
+  paid_lines = ap (λ own. lines_with_keys own (map (λ (line : PricedLine). line.key) lines)) own_lines ∙ own-keys lines (lines_formed-rise lines (checkout_formed-lines id customer lines formed))
 
   pub sellers_whole : (after : Acts) → after.whole ≡ acts.whole ++ r ∷ [] → after.unpaid ≡ acts.unpaid → after.items ≡ acts.items
       → ((seller : ℕ) → after.entries seller ≡ acts.entries seller ++ entries_whole id lines seller) → SellersAgree sellers_shipped after

@@ -25,11 +25,12 @@ use Rattle.market_events.proofs.ShipmentLaws.{packages-push, packages-same, item
 use Rattle.market_events.proofs.ShipmentRuns.{ShipmentRun-of}
 use Rattle.market_events.proofs.StockRuns.{checkout_formed-lines, lines_formed-rise}
 use Rattle.market_history.specs.Acts.{Acts, packages_for, packages_by, waiting_by, shipment_table}
+use Rattle.market_laws.proofs.RunsApart.{apart-append, apart-filter, paid-apart}
 use Rattle.market.specs.Agreeing.{ShipmentsAgree}
 use Rattle.market.specs.Carrying.{IsFresh, most_made}
 use Rattle.market.proofs.Checkouts.{is_line_in}
 use Rattle.market.proofs.Fresh.{same_number, fits_by, few_before, none_confirmed}
-use Rattle.market.proofs.Packages.{apart-append, apart-filter, packages-apart, all-filter, packages-lines}
+use Rattle.market.proofs.Packages.{all-filter, packages-lines}
 
 module _ (steps : List Step) (acts : Acts) (agree : ShipmentsAgree steps acts) where
   waiting_same : open_packages steps ≡ waiting_by acts.whole acts.items
@@ -55,8 +56,8 @@ module _ (steps : List Step) (acts : Acts) (agree : ShipmentsAgree steps acts) w
 
   pub delivered_apart : items_apart acts.items delivered ≡ true
   delivered_apart =
-      apart-filter (goes_with (oldest_of (waiting_by acts.whole acts.items))) [] acts.items acts.items (λ id key none before. before) (λ p kept. refl) (waiting_by acts.whole acts.items)
-      (apart-filter (λ (p : Item). not (list_any (is_item_of p.checkout p.key) acts.items)) acts.items [] acts.items (λ id key none before. none) (λ p kept. not_true (list_any (is_item_of p.checkout p.key) acts.items) kept) (packages_by acts.whole)
+      apart-filter (goes_with (oldest_of (waiting_by acts.whole acts.items))) acts.items acts.items (λ p kept here. here) (waiting_by acts.whole acts.items)
+      (apart-filter (λ (p : Item). not (list_any (is_item_of p.checkout p.key) acts.items)) [] acts.items (λ p kept none. not_true (list_any (is_item_of p.checkout p.key) acts.items) kept) (packages_by acts.whole)
       (ap (items_apart []) (sym agree.packed) ∙ agree.apart))
 
   pub delivered_lines : list_all (is_line_in acts.whole) delivered ≡ true
@@ -112,5 +113,5 @@ module _ (steps : List Step) (acts : Acts) (agree : ShipmentsAgree steps acts) (
         items = items_made-same steps s (ap (λ made. flat_map items_in (filter_map (body_on (Service 15)) made)) shipment_made) ∙ agree.items ∙ sym items;
         apart = ap (items_apart []) (packages-push steps s) ∙ apart-append [] (packages steps) (packages_for r)
             ∙ and_from (items_apart [] (packages steps)) (items_apart (packages steps) (packages_for r)) agree.apart
-            (packages-apart id customer lines (packages steps) ((ShipmentRun-of steps run).unpacked id (none_confirmed id steps fresh)) (lines_formed-rise lines (checkout_formed-lines id customer lines formed)));
+            (paid-apart id customer lines 0 (packages steps) ((ShipmentRun-of steps run).unpacked id (none_confirmed id steps fresh)) (lines_formed-rise lines (checkout_formed-lines id customer lines formed)));
       }

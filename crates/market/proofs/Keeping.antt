@@ -15,6 +15,7 @@ use Rattle.std.proofs.lemmas.List.Folds.{find_at, position_or_len_push}
 use Rattle.std.proofs.lemmas.Option.{slice_get_past, slice_get_read, gets}
 use Rattle.market_amounts.specs.declared.keys.RequestId.{RequestId}
 use Rattle.market_events.specs.Requests.{lanes, lane_of, same_id}
+use Rattle.market_events.proofs.SameLaws.{same_id-true, same_id-swap}
 use Rattle.market.specs.declared.lanes.Kept.{Kept}
 use Rattle.market.specs.Lanes.{kept_at, place_of, count_of_lane, id_cmp, place_at, AreLanesOf, IsFormed}
 
@@ -25,25 +26,6 @@ is_eq-pair a b x y = grind (arith, nat_tests)
 
 is_at-id_cmp : (id other : RequestId) → is_at (id_cmp id) other ≡ same_id other id
 is_at-id_cmp id other = is_eq-pair id.caller id.number other.caller other.number
-
-same_numbers : (a b x y : ℕ) → ((a == x) && (b == y)) ≡ true → (a ≡ x) × (b ≡ y)
-same_numbers a b x y h = grind (arith, nat_tests)
-
-same_id-true : (a b : RequestId) → same_id a b ≡ true → a ≡ b
-same_id-true a b h =
-    let both = same_numbers a.caller a.number b.caller b.number h in same_parts both.0 both.1
-  where
-    id : ℕ → ℕ → RequestId
-    id c n = record { caller = c; number = n }
-
-    same_parts : {s t p q : ℕ} → s ≡ t → p ≡ q → id s p ≡ id t q
-    same_parts e f = cc
-
-same_numbers-sym : (a b x y : ℕ) → ((a == x) && (b == y)) ≡ ((x == a) && (y == b))
-same_numbers-sym a b x y = grind (arith, nat_tests)
-
-same_id-sym : (a b : RequestId) → same_id a b ≡ same_id b a
-same_id-sym a b = same_numbers-sym a.caller a.number b.caller b.number
 
 -- the first place
 
@@ -101,7 +83,7 @@ found-push kept places after k fresh set found id =
     ∙ ap (λ place. cond (same_id id k.request.id) (Some (length kept)) place) (found id)
     ∙ number_or_place (same_id id k.request.id) (length kept) (place_of kept id) (λ same.
     no_place (λ (e : Kept). same_id e.request.id id) kept (ap (λ i. kept_at kept i) (same_id-true id k.request.id same) ∙ fresh))
-    ∙ ap (λ b. option_or (place_of kept id) (cond b (Some (length kept)) None)) (same_id-sym id k.request.id)
+    ∙ ap (λ b. option_or (place_of kept id) (cond b (Some (length kept)) None)) (same_id-swap id k.request.id)
     ∙ sym (position-push (λ (e : Kept). same_id e.request.id id) kept k)
 
 count_one : (counts : List ℕ) (lane other : ℕ) → lane < length counts → get_or (set counts lane (get_or counts lane 0 + 1)) other 0 ≡ get_or counts other 0 + cond (lane == other) 1 0

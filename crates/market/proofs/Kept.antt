@@ -1,15 +1,15 @@
 -- What the lanes keep of the requests that were given: one request more, and one lane alone.
-use Rattle.std.proofs.Common.{◌≡◌, ℕ, ◌≤◌, min, Bool, true, false, not, cond, ◌&&◌, ◌||◌, ◌⊎◌, inl, inr, ⊎_elim, List, [], ◌∷◌, ◌++◌, length, take, if◌then◌else◌, nat_lt, ◌==◌, count_by, filter, refl, sym, ap, ap₂, ◌∙◌, subst, append-nil, append_assoc, length-take, arith}
+use Rattle.std.proofs.Common.{◌≡◌, ℕ, ◌≤◌, min, Bool, true, false, not, cond, ◌||◌, ◌⊎◌, inl, inr, ⊎_elim, List, [], ◌∷◌, ◌++◌, length, take, if◌then◌else◌, nat_lt, ◌==◌, count_by, filter, refl, sym, ap, ◌∙◌, subst, append-nil, append_assoc, length-take, arith}
 use Rattle.std.specs.List.{list_any}
-use Rattle.std.proofs.lemmas.Bool.{false≢true, eqb-true, and_parts, or_cases, cond_both}
+use Rattle.std.proofs.lemmas.Bool.{false≢true, or_cases, cond_both}
 use Rattle.std.proofs.lemmas.Bool.Decides.{nat_tests}
 use Rattle.std.proofs.lemmas.List.{take_all, take-append-le, length_push}
 use Rattle.std.proofs.lemmas.List.Sums.{length-filter, sum_by_push}
 use Rattle.std.proofs.lemmas.List.Elements.{filter-append}
 use Rattle.std.proofs.lemmas.List.Folds.{list_any-append}
-use Rattle.market_amounts.specs.declared.keys.RequestId.{RequestId}
 use Rattle.market_events.specs.declared.requests.Request.{Request}
 use Rattle.market_events.specs.Requests.{lane_of, same_id}
+use Rattle.market_events.proofs.SameLaws.{same_id-true}
 use Rattle.market.specs.Once.{kept_after, kept_where, has_id_of, count_in_lane_of, of_lane, without_repeats, in_room, kept_of, kept_by}
 
 -- an induction over lists that grow at their end
@@ -68,27 +68,14 @@ has_id_of-push xs q r = grind (arith, list_any-append (λ (x : Request). same_id
 
 -- requests with one id
 
-same_id-true : (q r : Request) → same_id q.id r.id ≡ true → q.id ≡ r.id
-same_id-true q r same =
-    let parts = and_parts (q.id.caller == r.id.caller) (q.id.number == r.id.number) same in
-    let callers = eqb-true q.id.caller r.id.caller parts.0 in
-    let numbers = eqb-true q.id.number r.id.number parts.1 in
-    let id : ℕ → ℕ → RequestId = λ caller number. record { caller = caller; number = number } in ap₂ id callers numbers
-
-pub same_id-itself : (q : Request) → same_id q.id q.id ≡ true
-same_id-itself q = itself q.id.caller q.id.number
-  where
-    itself : (a b : ℕ) → ((a == a) && (b == b)) ≡ true
-    itself a b = grind (arith, nat_tests)
-
 lane_of-same : (q r : Request) → same_id q.id r.id ≡ true → lane_of q.id ≡ lane_of r.id
-lane_of-same q r same = ap lane_of (same_id-true q r same)
+lane_of-same q r same = ap lane_of (same_id-true q.id r.id same)
 
 has_id_of-same : (xs : List Request) (q r : Request) → same_id q.id r.id ≡ true → has_id_of xs q ≡ has_id_of xs r
-has_id_of-same xs q r same = ap (λ id. list_any (λ (x : Request). same_id x.id id) xs) (same_id-true q r same)
+has_id_of-same xs q r same = ap (λ id. list_any (λ (x : Request). same_id x.id id) xs) (same_id-true q.id r.id same)
 
 pub count_in_lane_of-same : (xs : List Request) (q r : Request) → same_id q.id r.id ≡ true → count_in_lane_of xs q ≡ count_in_lane_of xs r
-count_in_lane_of-same xs q r same = ap (λ id. count_by (λ (x : Request). lane_of x.id == lane_of id) xs) (same_id-true q r same)
+count_in_lane_of-same xs q r same = ap (λ id. count_by (λ (x : Request). lane_of x.id == lane_of id) xs) (same_id-true q.id r.id same)
 
 -- leaving repeats out loses no id
 pub has_id_of-without_repeats : (given : List Request) (r : Request) → has_id_of (without_repeats given) r ≡ has_id_of given r

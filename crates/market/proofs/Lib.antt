@@ -13,7 +13,6 @@ pub mod AgreePayments
 pub mod AgreeCustomers
 pub mod AgreeShipments
 pub mod AgreeStocks
-pub mod LineKeys
 pub mod AgreeSellers
 pub mod Baskets
 pub mod AgreeCarts

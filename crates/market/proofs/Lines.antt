@@ -9,6 +9,7 @@ use Rattle.market_events.specs.declared.requests.Request.{Request}
 use Rattle.market_events.specs.Requests.{same_id}
 use Rattle.market_events.specs.Texts.{text_of_reply}
 use Rattle.market_events.specs.declared.replies.Reply.{Reply}
+use Rattle.market_events.proofs.SameLaws.{same_id-self}
 use Rattle.market.specs.declared.hand.Hand.{Hand}
 use Rattle.market.specs.declared.lanes.Kept.{Kept}
 use Rattle.market.specs.Hand.{Stands, kept_replies}
@@ -18,7 +19,7 @@ use Rattle.market.specs.Output.{most_kept, answer_line, id_text, count_lines, wh
 use Rattle.market_history.specs.Acts.{no_acts}
 use Rattle.market_history.specs.Sequential.{acts_after, sequential_reply}
 use Rattle.market.specs.Replies.{sequential_replies}
-use Rattle.market.proofs.Kept.{kept_of-push, decided, count_in_lane_of-same, same_id-itself}
+use Rattle.market.proofs.Kept.{kept_of-push, decided, count_in_lane_of-same}
 use Rattle.market.proofs.Answering.{replies_after-push, is_some-kept_at}
 
 -- what is found with one element more at the end
@@ -82,7 +83,7 @@ lines_of : (given : List Request) (r : Request) (qs : List Request) → ((q : Re
     → flat_map (answer_line (kept_replies (given ++ r ∷ []))) qs ≡ flat_map (answer_line (kept_replies given)) qs
 lines_of given r [] all = refl
 lines_of given r (q ∷ qs) all =
-    ap₂ (λ line lines. line ++ lines) (line_stays given r q (all q (ap (λ b. b || has_id_of qs q) (same_id-itself q))))
+    ap₂ (λ line lines. line ++ lines) (line_stays given r q (all q (ap (λ b. b || has_id_of qs q) (same_id-self q.id))))
     (lines_of given r qs (λ p h. all p (ap (λ b. same_id q.id p.id || b) h ∙ or_true (same_id q.id p.id))))
   where
     or_true : (b : Bool) → (b || true) ≡ true

@@ -48,7 +48,7 @@ acts_listed customer q (act ∷ more) held is = either (last_some (line_left cus
     either (Some o) is rest = later (act_key customer act) (rest is)
 
 -- the basket has of each product what the acts leave of it
-find-basket_by : (acts : List BasketAct) (customer : ℕ) (key : ProductKey) → entries.find key_cmp key (basket_by acts customer) ≡ line_at acts customer key
+pub find-basket_by : (acts : List BasketAct) (customer : ℕ) (key : ProductKey) → entries.find key_cmp key (basket_by acts customer) ≡ line_at acts customer key
 find-basket_by acts customer key =
     put_all-find (λ k. line_at acts customer k) key (filter_map (act_key customer) acts) []
     ∙ either (list_any (same_key key) (filter_map (act_key customer) acts)) refl (last_some (line_left customer key) acts) refl
@@ -61,7 +61,7 @@ find-basket_by acts customer key =
     either false any (Some None) is = refl
     either false any (Some (Some held)) is = cc (acts_listed customer key acts held is)
 
-is_sorted-basket_by : (acts : List BasketAct) (customer : ℕ) → T (entries.is_sorted key_cmp (basket_by acts customer))
+pub is_sorted-basket_by : (acts : List BasketAct) (customer : ℕ) → T (entries.is_sorted key_cmp (basket_by acts customer))
 is_sorted-basket_by acts customer = put_all-sorted [] (filter_map (λ key. with_key key (line_at acts customer key)) (filter_map (act_key customer) acts)) tt
 
 -- a step leaves what its act leaves

@@ -1,23 +1,15 @@
 -- Counts of kept elements, and of items that are apart.
-use Rattle.std.proofs.Common.{◌≡◌, ℕ, ◌≤◌, Bool, true, false, cond, not, List, [], ◌∷◌, ◌++◌, Option, Some, None, is_some, filter, filter_map, if◌then◌else◌, count_by, inl, inr, refl, ap, sym, ◌∙◌, subst, arith}
+use Rattle.std.proofs.Common.{◌≡◌, ℕ, ◌≤◌, Bool, true, false, cond, not, List, [], ◌∷◌, ◌++◌, filter, count_by, refl, sym, ◌∙◌, subst, arith}
 use Rattle.std.specs.List.{list_any}
 use Rattle.std.proofs.lemmas.List.Sums.{sum_by-cons}
 use Rattle.market_amounts.specs.declared.keys.ProductKey.{ProductKey}
 use Rattle.market_amounts.specs.declared.keys.RequestId.{RequestId}
-use Rattle.std.specs.Option.{option_or}
-use Rattle.market_events.specs.declared.bodies.Body.{Body}
-use Rattle.market_events.specs.declared.bodies.Body.TheVariants as body
 use Rattle.market_events.specs.declared.bodies.Item.{Item}
-use Rattle.market_events.specs.declared.changes.Change.{Change}
-use Rattle.market_events.specs.Copies.{ProductChange, last_some, change_of, price_set, freight_set, look_of, copy_of}
-use Rattle.market_events.specs.Products.{change_in}
 use Rattle.market_events.specs.Orders.{is_item_of}
 use Rattle.market_events.specs.Requests.{same_id, same_key}
-use Rattle.market_events.specs.Services.{is_known, items_apart}
+use Rattle.market_events.specs.Services.{items_apart}
 use Rattle.market_events.proofs.ListLaws.{and_both, not_true, list_any-push, or_left, or_true}
 use Rattle.market_events.proofs.SameLaws.{same_id-true, same_key-true}
-use Rattle.market_laws.specs.Runs.{Member}
-use Rattle.market_laws.proofs.RowChangedLists.{member-gathered, change_in-is}
 
 -- no more passes among what is kept
 pub count-filter : {A : Type 0} (test keep : A → Bool) (xs : List A) → count_by test (filter keep xs) ≤ count_by test xs
@@ -77,32 +69,3 @@ apart-few before (x ∷ xs) c key apart =
         let split = sum_by-cons (λ y. cond (is_item_of c key y) 1 0) x xs in
         let zero : ◌≡◌ {A = ℕ} (cond (is_item_of c key x) 1 0) 0 = rw is refl in
         omega (arith, rest, split, zero)
-
--- where something is the last, some member gives something
-last_given : {A B : Type 0} (f : A → Option B) (xs : List A) → is_some (last_some f xs) ≡ true → (x : A) × (y : B) × Member x xs × (f x ≡ Some y)
-last_given f [] some = let no : ⊥ = cc in absurd no
-last_given {A = A} {B = B} f (z ∷ zs) some = by (last_some f zs) (f z) refl some (λ later. last_given f zs later)
-  where
-    by : (o p : Option B) → f z ≡ p → is_some (option_or o p) ≡ true → (is_some o ≡ true → (x : A) × (y : B) × Member x zs × (f x ≡ Some y)) → (x : A) × (y : B) × Member x (z ∷ zs) × (f x ≡ Some y)
-    by None None is some rest = let no : ⊥ = cc in absurd no
-    by None (Some w) is some rest = (z, w, inl refl, is)
-    by (Some w) p is some rest = let found = rest refl in (found.0, found.1, inr found.2, found.3)
-
--- a product that is known was told of by a change
-pub known-told : (bodies : List Body) (key : ProductKey) → is_known (copy_of (filter_map change_in bodies) key) ≡ true → (version : ℕ) × (c : Change) × Member (body.Changed key version c) bodies
-known-told bodies key known =
-    let last = last_given (change_of key) changes (by (last_some (change_of key) changes) (last_some (price_set key) changes) (last_some (freight_set key) changes) known) in
-    let found = member-gathered change_in last.0 bodies last.2 in
-    let same : key ≡ last.0.key = of_key last.0 last.1 (same_key key last.0.key) refl last.3 in
-    (last.0.version, last.0.change, subst (λ b. Member b bodies) (change_in-is found.0 last.0 found.2 ∙ ap (λ k. body.Changed k last.0.version last.0.change) (sym same)) found.1)
-  where
-    changes : List ProductChange
-    changes = filter_map change_in bodies
-
-    by : (o : Option ProductChange) (price freight : Option ℕ) → is_known (look_of o price freight) ≡ true → is_some o ≡ true
-    by None price freight known = cc
-    by (Some d) price freight known = refl
-
-    of_key : (c d : ProductChange) (b : Bool) → same_key key c.key ≡ b → (if b then Some c else None) ≡ Some d → key ≡ c.key
-    of_key c d true same gives = same_key-true key c.key same
-    of_key c d false same gives = let no : ⊥ = cc in absurd no

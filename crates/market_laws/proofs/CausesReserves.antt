@@ -37,12 +37,11 @@ use Rattle.market_laws.specs.Causes.{HasTaken, IsCausedBy, MakesJust, checkout_a
 use Rattle.market_laws.specs.Cuts.{steps_at, TookAt, MadeAt}
 use Rattle.market_laws.specs.Runs.{Member}
 use Rattle.market_laws.proofs.CausesBase.{due-here, made-few, makes-these, among-answers, caused-by, made-by, only-link, has-taken, made-at, took-at}
-use Rattle.market_laws.proofs.CausesLists.{known-told}
 use Rattle.market_laws.proofs.CausesTold.{AllTold, told-member, told-either}
 use Rattle.market_laws.proofs.CutCauses.{cause}
 use Rattle.market_laws.proofs.CutOnce.{taken-before}
 use Rattle.market_laws.proofs.RowAsked.{asked-for, asked-on}
-use Rattle.market_laws.proofs.RowChangedLists.{member_of_all}
+use Rattle.market_laws.proofs.RowChangedLists.{known-told, member_of_all}
 use Rattle.market_laws.proofs.RunsCart.{sent-le-asked}
 use Rattle.market_laws.proofs.RunsTold.{asked-once}
 

@@ -31,6 +31,7 @@ use Rattle.market_laws.proofs.CausesBase.{made-few, makes-these, among-answers, 
 use Rattle.market_laws.proofs.CausesTold.{AllTold, told-member, told-either}
 use Rattle.market_laws.proofs.CutCauses.{cause}
 use Rattle.market_laws.proofs.RowChangedLinks.{came}
+use Rattle.market_laws.proofs.RowOrder.{held-few}
 use Rattle.market_laws.proofs.RunsStock.{answered-is, reserves-once}
 
 -- stock answers a request by telling a lane
@@ -76,10 +77,7 @@ refused_for s (body.Reserve id buyer ls) link c key rule here = (buyer, ls, by (
     by (Some refusal) (inr never) = absurd never
 refused_for s other link c key rule here = absurd here
 
--- it holds pieces for a checkout once at most, and refuses it once at most
-held_few : (id : RequestId) (steps : List Step) → IsRunOf Role.Stock steps → count_by (holds_pieces id) (made_on 4 steps) ≤ 1
-held_few id steps run = omega (arith, answered-is steps run id, reserves-once steps run id)
-
+-- it refuses a checkout once at most
 refused_few : (id : RequestId) (steps : List Step) → IsRunOf Role.Stock steps → count_by (ends id) (made_on 3 steps) ≤ 1
 refused_few id steps run = omega (arith, answered-is steps run id, reserves-once steps run id)
 
@@ -130,6 +128,6 @@ module _ (h : Histories) (lawful : IsLawful h) (c : RequestId) where
         );
     makes = λ n event t customer lines on is.
         took-at h event (λ n t. Answered n event t customer lines) stock_node n (sym (ap receiver_of on) ∙ t.ready.1) (answered event customer lines is) t;
-    confirmed_once = made-few h lawful stock_node (omega arith) 4 (holds_pieces c) (held_few c);
+    confirmed_once = made-few h lawful stock_node (omega arith) 4 (holds_pieces c) (held-few c);
     failed_once = made-few h lawful stock_node (omega arith) 3 (ends c) (refused_few c);
   }

@@ -9,6 +9,7 @@ use Rattle.market_events.specs.declared.events.What.TheVariants.{Given, Taken, M
 use Rattle.market_events.specs.declared.links.Link.{Link}
 use Rattle.market_events.specs.Links.{same_link}
 use Rattle.market_history.specs.Blocks.{Out, Arrival, what_of, with_what, with_out}
+use Rattle.market_history.specs.Causality.{event_taken}
 use Rattle.market_history.specs.Histories.{nodes}
 use Rattle.market_history.specs.Journals.{IsLane}
 use Rattle.market_history.specs.Sent.{made_on, got_on, sent}
@@ -46,6 +47,13 @@ grown-made n lt (more j a grown ready) =
     subst (AllByRecursion (λ (x : Entry). IsMadeAt n x.what)) (sym (grow-is n j a))
     (made_outs n (with_what j (what_of a)) (outs_after n j a)
     (all-append (λ (x : Entry). IsMadeAt n x.what) j (entry_of j (what_of a) ∷ []) (grown-made n lt grown) (made_arrival n a, tt)) (outs-made n lt j a ready))
+
+-- an entry that took an event
+pub event_taken-is : (what : What) (event : Event) → event_taken what ≡ Some event → what ≡ Taken event
+event_taken-is (Given request) event e = let no : ⊥ = cc in absurd no
+event_taken-is (Taken other) event e = let same : other ≡ event = cc in ap Taken same
+event_taken-is (Made other) event e = let no : ⊥ = cc in absurd no
+event_taken-is (Answered id reply) event e = let no : ⊥ = cc in absurd no
 
 -- an event on a link is the one that was made
 pub made_on-is : (link : Link) (what : What) (event : Event) → made_on link what ≡ Some event → (what ≡ Made event) × (same_link event.link link ≡ true)

@@ -2,19 +2,16 @@
 use Rattle.std.proofs.Common.{◌≡◌, ℕ, ◌≤◌, ◌==◌, ◌&&◌, ◌||◌, true, nat_le, nat_lt, [], sym, ap, ◌∙◌, subst, arith}
 use Rattle.std.specs.List.{AllByRecursion}
 use Rattle.std.proofs.lemmas.Bool.Decides.{nat_tests}
-use Rattle.market_events.specs.declared.events.Entry.{Entry}
 use Rattle.market_events.specs.declared.events.Event.{Event}
-use Rattle.market_events.specs.declared.events.What.TheVariants.{Made}
 use Rattle.market_events.specs.declared.links.Link.{Link}
 use Rattle.market_events.specs.Links.{IsLink, sender_of}
 use Rattle.market_history.specs.Histories.{Histories}
 use Rattle.market_history.specs.Lawful.{IsLawful}
 use Rattle.market_history.specs.Outstanding.{is_no_later, IsOldest}
-use Rattle.market_laws.specs.Cuts.{entry_with, MadeAt}
+use Rattle.market_laws.specs.Cuts.{MadeAt}
 use Rattle.market_laws.proofs.AllLaws.{all-at}
-use Rattle.market_laws.proofs.CutClocks.{same_place}
-use Rattle.market_laws.proofs.CutPlaces.{made_stands}
 use Rattle.market_laws.proofs.OldestPlaces.{out-at}
+use Rattle.market_laws.proofs.PastOrder.{same_event}
 
 -- neither comes before the other
 both_ways : (a b m n : ℕ) → (nat_lt a b || ((a == b) && nat_le m n)) ≡ true → (nat_lt b a || ((b == a) && nat_le n m)) ≡ true → (a ≡ b) × (m ≡ n)
@@ -25,13 +22,6 @@ both_ways a b m n one two =
     (clock, omega (arith, low, high))
 
 module _ (h : Histories) (lawful : IsLawful h) where
-  -- events of one node with one clock
-  one_made : (n : ℕ) (e f : Event) → MadeAt h n e → MadeAt h n f → e.clock ≡ f.clock → e ≡ f
-  one_made n e f m k same =
-      let entries = (same_place h n (entry_with e.clock (Made e)) (entry_with f.clock (Made f)) lawful (made_stands h n e m) (made_stands h n f k) same).1 in
-      let whats : Made e ≡ Made f = ap (λ (x : Entry). x.what) entries in
-      cc
-
   -- the oldest of one is no later than the oldest of another
   earlier_of : (link other : Link) (number count : ℕ) → IsLink other → (o : IsOldest h link number) (p : IsOldest h other count) → is_no_later o.event p.event ≡ true
   earlier_of link other number count on o p =
@@ -45,5 +35,5 @@ module _ (h : Histories) (lawful : IsLawful h) where
       let both = both_ways o.event.clock p.event.clock (sender_of o.event.link) (sender_of p.event.link)
       (earlier_of link other number count by o p) (earlier_of other link count number on p o) in
       let node : sender_of other ≡ sender_of link = ap sender_of (sym b.on) ∙ sym both.1 ∙ ap sender_of a.on in
-      let same : o.event ≡ p.event = one_made (sender_of link) o.event p.event a.made (subst (λ n. MadeAt h n p.event) node b.made) both.0 in
+      let same : o.event ≡ p.event = same_event h lawful (sender_of link) o.event p.event a.made (subst (λ n. MadeAt h n p.event) node b.made) both.0 in
       (sym a.on ∙ ap (λ (e : Event). e.link) same ∙ b.on, sym o.named ∙ ap (λ (e : Event). e.number) same ∙ p.named)

@@ -94,7 +94,7 @@ module _ (h : Histories) (lawful : IsLawful h) where
           let above : g.clock < f.clock = grind (arith, nat_tests) in absurd (omega (arith, numbers_rise n g f gm fm same above))
 
   -- two events of a node with one clock are one
-  same_event : (n : ℕ) (f g : Event) → MadeAt h n f → MadeAt h n g → f.clock ≡ g.clock → f ≡ g
+  pub same_event : (n : ℕ) (f g : Event) → MadeAt h n f → MadeAt h n g → f.clock ≡ g.clock → f ≡ g
   same_event n f g fm gm e =
       let one = same_place h n (entry_with f.clock (Made f)) (entry_with g.clock (Made g)) lawful (made_stands h n f fm) (made_stands h n g gm) e in
       let what : Made f ≡ Made g = ap (λ (x : Entry). x.what) one.1 in

@@ -22,7 +22,7 @@ use Rattle.market_laws.proofs.AllLaws.{gathered-at}
 use Rattle.market_laws.proofs.CutClocks.{within-earlier, within_stands, took_took, took_made, made_made}
 use Rattle.market_laws.proofs.CutLists.{gathered-here}
 use Rattle.market_laws.proofs.CutPlaces.{made_stands, took_of, made_of, made_clock}
-use Rattle.market_laws.proofs.MadeLaws.{made_on-is}
+use Rattle.market_laws.proofs.MadeLaws.{event_taken-is, made_on-is}
 use Rattle.market_laws.proofs.PastReady.{TookEarlier}
 use Rattle.market_laws.proofs.TakenMade.{StandsAt}
 
@@ -52,13 +52,6 @@ far_empty h n each far = get_or_past h n [] (omega arith)
 none_there : (before : List Entry) (x : Entry) (rest : List Entry) → [] ≡ before ++ x ∷ rest → ⊥
 none_there [] x rest e = cc
 none_there (y ∷ before) x rest e = cc
-
--- what was taken, and what was seen
-event_taken-is : (what : What) (event : Event) → event_taken what ≡ Some event → what ≡ Taken event
-event_taken-is (Given request) event e = let no : ⊥ = cc in absurd no
-event_taken-is (Taken other) event e = let same : other ≡ event = cc in ap Taken same
-event_taken-is (Made other) event e = let no : ⊥ = cc in absurd no
-event_taken-is (Answered id reply) event e = let no : ⊥ = cc in absurd no
 
 event_seen-is : (what : What) (event : Event) → event_seen what ≡ Some event → (what ≡ Taken event) ⊎ (what ≡ Made event)
 event_seen-is (Given request) event e = let no : ⊥ = cc in absurd no

@@ -19,7 +19,7 @@ use Rattle.market_laws.proofs.AllLaws.{all-at, all-by, gathered-at}
 use Rattle.market_laws.proofs.ClockLaws.{clock-few}
 use Rattle.market_laws.proofs.DueLaws.{IsDue, HasNumber}
 use Rattle.market_laws.proofs.FewLaws.{few, length-few}
-use Rattle.market_laws.proofs.MadeLaws.{IsMadeAt}
+use Rattle.market_laws.proofs.MadeLaws.{IsMadeAt, event_taken-is}
 use Rattle.market_laws.proofs.OutLaws.{IsMade}
 use Rattle.market_laws.proofs.TakenMade.{StandsAt, grown_at, stands-due, stands-made, MadeThere, taken-made}
 use Rattle.market_laws.proofs.ToldLaws.{IsAnswered, grown-answered}
@@ -50,16 +50,10 @@ module _ (h : Histories) (n : ℕ) (lawful : IsLawful h) where
   taken_formed : n < nodes → AllByRecursion (λ (e : Event). IsBody e.body) (events_taken (journal_at h n))
   taken_formed lt = all-by (λ (e : Event). IsBody e.body) (events_taken (journal_at h n)) each
     where
-      taken_is : (what : What) (event : Event) → event_taken what ≡ Some event → what ≡ Taken event
-      taken_is (Given request) event e = let no : ⊥ = cc in absurd no
-      taken_is (Taken other) event e = let same : other ≡ event = cc in ap Taken same
-      taken_is (Made other) event e = let no : ⊥ = cc in absurd no
-      taken_is (Answered id reply) event e = let no : ⊥ = cc in absurd no
-
       each : (before : List Event) (event : Event) (after : List Event) → events_taken (journal_at h n) ≡ before ++ event ∷ after → IsBody event.body
       each before event after is =
           let at = gathered-at (λ (x : Entry). event_taken x.what) (journal_at h n) before event after is in
-          (made_as event (taken-made h n at.at event lawful (record { node = lt; before = at.before; after = at.after; is = at.is }) (taken_is at.at.what event at.gives))).formed
+          (made_as event (taken-made h n at.at event lawful (record { node = lt; before = at.before; after = at.after; is = at.is }) (event_taken-is at.at.what event at.gives))).formed
 
   module _ (x : Entry) (s : StandsAt h n x) where
     due : IsDue n s.before x

@@ -7,6 +7,8 @@ use Rattle.market_events.specs.declared.bodies.Body.{Body}
 use Rattle.market_events.specs.declared.bodies.Body.TheVariants as body
 use Rattle.market_events.specs.declared.changes.Change.{Change}
 use Rattle.market_events.specs.declared.changes.Change.TheVariants as change
+use Rattle.market_events.specs.declared.changes.Look.{Look}
+use Rattle.market_events.specs.declared.changes.Look.TheVariants as look
 use Rattle.market_events.specs.Copies.{ProductChange, last_some, change_of, price_set, freight_set, shown, look_of, copy_of}
 use Rattle.market_events.specs.Looks.{is_live}
 use Rattle.market_events.specs.Products.{change_in}
@@ -106,10 +108,10 @@ known-changed bodies key version c here =
     by None price freight some = cc
     by (Some d) price freight some = is_shown d.version d.change price freight
 
--- a product that is live was told of by a change
-pub live-changed : (bodies : List Body) (key : ProductKey) → is_live (copy_of (filter_map change_in bodies) key) ≡ true → (version : ℕ) × (c : Change) × Member (body.Changed key version c) bodies
-live-changed bodies key live =
-    let last = member_of_last (change_of key) changes (by (last_some (change_of key) changes) (last_some (price_set key) changes) (last_some (freight_set key) changes) live) in
+-- a product that is known was told of by a change
+pub known-told : (bodies : List Body) (key : ProductKey) → is_known (copy_of (filter_map change_in bodies) key) ≡ true → (version : ℕ) × (c : Change) × Member (body.Changed key version c) bodies
+known-told bodies key known =
+    let last = member_of_last (change_of key) changes (by (last_some (change_of key) changes) (last_some (price_set key) changes) (last_some (freight_set key) changes) known) in
     let found = member-gathered change_in last.0 bodies last.2 in
     let same : key ≡ last.0.key = of_key last.0 last.1 (same_key key last.0.key) refl last.3 in
     (last.0.version, last.0.change, subst (λ b. Member b bodies) (change_in-is found.0 last.0 found.2 ∙ ap (λ k. body.Changed k last.0.version last.0.change) (sym same)) found.1)
@@ -117,10 +119,18 @@ live-changed bodies key live =
     changes : List ProductChange
     changes = filter_map change_in bodies
 
-    by : (o : Option ProductChange) (price freight : Option ℕ) → is_live (look_of o price freight) ≡ true → is_some o ≡ true
-    by None price freight live = cc
-    by (Some d) price freight live = refl
+    by : (o : Option ProductChange) (price freight : Option ℕ) → is_known (look_of o price freight) ≡ true → is_some o ≡ true
+    by None price freight known = cc
+    by (Some d) price freight known = refl
 
     of_key : (c d : ProductChange) (b : Bool) → same_key key c.key ≡ b → (if b then Some c else None) ≡ Some d → key ≡ c.key
     of_key c d true same gives = same_key-true key c.key same
     of_key c d false same gives = let no : ⊥ = cc in absurd no
+
+-- and so was one that is live
+pub live-changed : (bodies : List Body) (key : ProductKey) → is_live (copy_of (filter_map change_in bodies) key) ≡ true → (version : ℕ) × (c : Change) × Member (body.Changed key version c) bodies
+live-changed bodies key live = known-told bodies key (live_known (copy_of (filter_map change_in bodies) key) live)
+  where
+    live_known : (l : Look) → is_live l ≡ true → is_known l ≡ true
+    live_known (look.Live version price freight) live = refl
+    live_known other live = let no : ⊥ = cc in absurd no

@@ -74,7 +74,7 @@ elsewhere other k (body.Delivered items) on differs =
 elsewhere other k b on differs = refl
 
 -- what came on a link is among what was taken
-got_taken : (link : Link) (b : Body) (j : List Entry) → Member b (map (λ (e : Event). e.body) (got link j)) → Member b (map (λ (e : Event). e.body) (events_taken j))
+pub got_taken : (link : Link) (b : Body) (j : List Entry) → Member b (map (λ (e : Event). e.body) (got link j)) → Member b (map (λ (e : Event). e.body) (events_taken j))
 got_taken link b [] here = here
 got_taken link b (x ∷ xs) here = by x.what here (λ more. got_taken link b xs more)
   where

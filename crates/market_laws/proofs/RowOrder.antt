@@ -57,7 +57,7 @@ for_lines : (checkout : RequestId) (customer : ℕ) (lines : List PricedLine) �
 for_lines checkout customer lines = and_from (is_for checkout customer (held_for checkout customer lines)) (same_lines lines lines) (for_it checkout customer lines) (same_lines-self lines)
 
 -- stock holds a checkout's pieces once at most
-held-few : (id : RequestId) (steps : List Step) → IsRunOf Role.Stock steps → count_by (holds_pieces id) (made_on 4 steps) ≤ 1
+pub held-few : (id : RequestId) (steps : List Step) → IsRunOf Role.Stock steps → count_by (holds_pieces id) (made_on 4 steps) ≤ 1
 held-few id steps run = omega (arith, answered-is steps run id, reserves-once steps run id)
 
 -- shipments ship a checkout once at most

@@ -12,8 +12,7 @@ use Rattle.market_events.specs.declared.bodies.Body.{Body}
 use Rattle.market_events.specs.declared.bodies.Body.TheVariants as body
 use Rattle.market_events.specs.declared.events.Entry.{Entry}
 use Rattle.market_events.specs.declared.events.Event.{Event}
-use Rattle.market_events.specs.declared.events.What.{What}
-use Rattle.market_events.specs.declared.events.What.TheVariants.{Given, Taken, Made, Answered}
+use Rattle.market_events.specs.declared.events.What.TheVariants.{Taken}
 use Rattle.market_events.specs.declared.links.Link.{Link}
 use Rattle.market_events.specs.declared.requests.Request.{Request}
 use Rattle.market_events.specs.Links.{same_link}
@@ -37,6 +36,7 @@ use Rattle.market_laws.proofs.CutLists.{any_of_member}
 use Rattle.market_laws.proofs.CutOnce.{TookBefore}
 use Rattle.market_laws.proofs.CutPlaces.{took_stands, took_of}
 use Rattle.market_laws.proofs.CutSenders.{sent-split}
+use Rattle.market_laws.proofs.MadeLaws.{event_taken-is}
 use Rattle.market_laws.proofs.RowAskedLanes.{asked_on, outs-lane, asked-view, asked-given}
 use Rattle.market_laws.proofs.RunsBase.{member-between, member-split}
 use Rattle.market_laws.proofs.TakenMade.{StandsAt}
@@ -84,13 +84,6 @@ only_one test x y (z ∷ zs) few (inr later) (inl also) p q =
     absurd (omega (arith, some, one, sum_by-cons (λ w. cond (test w) 1 0) z zs))
 only_one test x y (z ∷ zs) few (inr later) (inr more_later) p q =
     only_one test x y zs (omega (arith, sum_by-cons (λ w. cond (test w) 1 0) z zs)) later more_later p q
-
--- an entry that took an event
-pub event_taken-is : (what : What) (event : Event) → event_taken what ≡ Some event → what ≡ Taken event
-event_taken-is (Given request) event e = let no : ⊥ = cc in absurd no
-event_taken-is (Taken other) event e = let same : other ≡ event = cc in ap Taken same
-event_taken-is (Made other) event e = let no : ⊥ = cc in absurd no
-event_taken-is (Answered id reply) event e = let no : ⊥ = cc in absurd no
 
 -- a member of a mapped list comes of one
 member-unmap : {A B : Type 0} (f : A → B) (y : B) (xs : List A) → Member y (map f xs) → (x : A) × Member x xs × (f x ≡ y)

@@ -1,42 +1,26 @@
 -- The step of a run that made a body on a link: it makes one at most there, so the bodies before it are those that the steps
 -- before it made.
-use Rattle.std.proofs.Common.{◌≡◌, ℕ, ◌<◌, ◌≤◌, Bool, true, false, List, [], ◌∷◌, ◌++◌, length, refl, ap, sym, subst, ◌∙◌, append-nil, append_assoc, arith}
+use Rattle.std.proofs.Common.{◌≡◌, ℕ, ◌≤◌, Bool, true, false, List, [], ◌∷◌, ◌++◌, length, refl, ap, sym, subst, ◌∙◌, append-nil, append_assoc, arith}
 use Rattle.std.specs.List.{AllByRecursion}
 use Rattle.std.proofs.lemmas.Bool.Decides.{nat_tests}
 use Rattle.std.proofs.lemmas.List.Elements.{filter_map-append}
 use Rattle.market_events.specs.declared.bodies.Body.{Body}
 use Rattle.market_events.specs.declared.links.Link.{Link}
 use Rattle.market_events.specs.declared.links.Link.TheVariants.{Service, Asked, Told}
-use Rattle.market_events.specs.AnswerShape.{LinksApart, AreAnswers}
+use Rattle.market_events.specs.AnswerShape.{LinksApart}
 use Rattle.market_events.specs.Links.{same_link}
-use Rattle.market_events.specs.Services.{Role, Follows, RunsFrom, IsRunOf, answers, most_steps}
+use Rattle.market_events.specs.Services.{Role, Follows, RunsFrom, IsRunOf}
 use Rattle.market_events.specs.Steps.{Step, Sending, made_in, body_on, made_on}
-use Rattle.market_events.specs.WellFormed.{IsBody}
-use Rattle.market_events.proofs.AnswerBaskets.{cart_shape}
-use Rattle.market_events.proofs.AnswerRuns.{product_shape, payment_shape, customer_shape, order_shape, stock_shape, shipment_shape, seller_shape}
-use Rattle.market_events.proofs.FormedLaws.{body_formed-IsBody}
 use Rattle.market_events.proofs.OfferLaws.{same_link-true}
-use Rattle.market_events.proofs.StepLaws.{made_on-push, fits-parts, run-push}
+use Rattle.market_events.proofs.StepLaws.{made_on-push, run-push}
 use Rattle.market_laws.specs.Runs.{Member}
+use Rattle.market_laws.proofs.OutLaws.{answers-shape}
 use Rattle.market_laws.proofs.RunsBase.{on, member-split}
-
--- each service answers in shape
-answers-shape : (role : Role) (steps : List Step) (from : Link) (b : Body) → IsRunOf role steps → length steps < most_steps → IsBody b → AreAnswers role b (answers role steps from b)
-unfolding answers
-answers-shape Role.Cart steps from b run few ok = cart_shape steps run b ok
-answers-shape Role.Product steps from b run few ok = product_shape steps run few b ok
-answers-shape Role.Stock steps from b run few ok = stock_shape steps run b ok
-answers-shape Role.Order steps from b run few ok = order_shape steps run b ok
-answers-shape Role.Payment steps from b run few ok = payment_shape steps b ok
-answers-shape Role.Shipment steps from b run few ok = shipment_shape steps run b ok
-answers-shape Role.Customer steps from b run few ok = customer_shape steps run few b ok
-answers-shape Role.Seller steps from b run few ok = seller_shape steps run b ok
 
 -- what a step that follows a run makes is on links apart
 pub made-apart : (role : Role) (before : List Step) (s : Step) → IsRunOf role before → Follows role before s → LinksApart s.made
 made-apart role before s run follows =
-    let parts = fits-parts role before s.from s.body follows.fit in
-    subst LinksApart (sym follows.made) (answers-shape role before s.from s.body run parts.few (body_formed-IsBody s.body parts.formed)).apart
+    subst LinksApart (sym follows.made) (answers-shape role before s.from s.body run follows.fit).apart
 
 -- a link that is not this service link, turned round
 other_link : (n : ℕ) (l : Link) → same_link (Service n) l ≡ false → same_link l (Service n) ≡ false

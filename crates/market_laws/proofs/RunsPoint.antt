@@ -57,7 +57,7 @@ line-alone lines rise line key here same =
     (ap (λ k. same_key k key) same ∙ same_key-self key)
 
 -- so the lines with the keys of rising lines are these lines
-own-keys : (lines : List PricedLine) → keys_rise lines ≡ true → lines_with_keys lines (map (λ (line : PricedLine). line.key) lines) ≡ lines
+pub own-keys : (lines : List PricedLine) → keys_rise lines ≡ true → lines_with_keys lines (map (λ (line : PricedLine). line.key) lines) ≡ lines
 own-keys lines rise = each lines (λ line here. line-alone lines rise line line.key here refl)
   where
     each : (ls : List PricedLine) → ((line : PricedLine) → Member line ls → filter (λ (m : PricedLine). same_key m.key line.key) lines ≡ line ∷ []) → lines_with_keys lines (map (λ (line : PricedLine). line.key) ls) ≡ ls

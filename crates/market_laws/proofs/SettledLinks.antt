@@ -1,16 +1,14 @@
 -- In settled histories what came to a node on a link is what was made on it (settled-link, settled-bodies). So bodies of a kind
 -- that come into a service on one service link alone are, in its steps, those that were made on that link, in the same order
 -- (filter-made), and as many (count-made, member-made).
-use Rattle.std.proofs.Common.{◌≡◌, ℕ, ◌<◌, Bool, true, false, List, [], ◌∷◌, ◌++◌, Option, Some, None, length, drop, filter, filter_map, if◌then◌else◌, count_by, inl, inr, refl, ap, sym, ◌∙◌, subst, append-nil, arith}
+use Rattle.std.proofs.Common.{◌≡◌, ℕ, ◌<◌, Bool, true, false, List, [], ◌∷◌, ◌++◌, Option, Some, None, length, drop, filter, filter_map, if◌then◌else◌, count_by, refl, ap, sym, ◌∙◌, subst, append-nil, arith}
 use Rattle.std.specs.Prelude.{map}
 use Rattle.std.specs.List.{cons_option}
 use Rattle.std.proofs.Math.Seq.{drop-append_seam}
 use Rattle.std.proofs.lemmas.List.Sums.{length-filter}
 use Rattle.market_events.specs.declared.bodies.Body.{Body}
-use Rattle.market_events.specs.declared.events.Entry.{Entry}
 use Rattle.market_events.specs.declared.events.Event.{Event}
-use Rattle.market_events.specs.declared.events.What.{What}
-use Rattle.market_events.specs.declared.events.What.TheVariants.{Given, Taken, Made, Answered}
+use Rattle.market_events.specs.declared.events.What.TheVariants.{Taken}
 use Rattle.market_events.specs.declared.links.Link.{Link}
 use Rattle.market_events.specs.declared.links.Link.TheVariants.{Service}
 use Rattle.market_events.specs.Carried.{carries}
@@ -18,11 +16,11 @@ use Rattle.market_events.specs.Links.{IsLink, sender_of, receiver_of, same_link}
 use Rattle.market_events.specs.Steps.{taken_bodies, made_on}
 use Rattle.market_events.proofs.OfferLaws.{same_link-same}
 use Rattle.market_history.specs.Blocks.{services}
-use Rattle.market_history.specs.Causality.{event_taken, events_taken}
+use Rattle.market_history.specs.Causality.{events_taken}
 use Rattle.market_history.specs.Histories.{Histories, journal_at}
 use Rattle.market_history.specs.Lawful.{IsLawful}
 use Rattle.market_history.specs.Outstanding.{IsSettled}
-use Rattle.market_history.specs.Sent.{got_on, sent, got}
+use Rattle.market_history.specs.Sent.{sent, got}
 use Rattle.market_history.proofs.GrowSent.{bodies_on}
 use Rattle.market_laws.specs.Cuts.{entry_with, steps_at}
 use Rattle.market_laws.specs.Runs.{Member}
@@ -31,6 +29,7 @@ use Rattle.market_laws.proofs.CutMade.{whole}
 use Rattle.market_laws.proofs.CutPlaces.{took_of}
 use Rattle.market_laws.proofs.OnceLists.{member-kept}
 use Rattle.market_laws.proofs.RowChangedLinks.{IsNoRequest, below_all, comes_on, came-on}
+use Rattle.market_laws.proofs.RowCustomerItems.{got_taken}
 use Rattle.market_laws.proofs.RunsBase.{member-filter}
 use Rattle.market_laws.proofs.TakenMade.{grown_at}
 use Rattle.market_laws.proofs.ViewLinks.{gathered-got}
@@ -47,25 +46,6 @@ filter-picked {A = A} test (x ∷ xs) = by (test x) (filter-picked test xs)
     by : (b : Bool) → filter_map (picked test) xs ≡ filter test xs → cons_option (if b then Some x else None) (filter_map (picked test) xs) ≡ (if b then x ∷ filter test xs else filter test xs)
     by true rest = ap (λ l. x ∷ l) rest
     by false rest = rest
-
--- what was taken on a link was taken
-pub member-got : (link : Link) (b : Body) (j : List Entry) → Member b (map (λ (e : Event). e.body) (got link j)) → Member b (map (λ (e : Event). e.body) (events_taken j))
-member-got link b [] here = here
-member-got link b (x ∷ xs) here = by x.what here (λ later. member-got link b xs later)
-  where
-    Rest : Type 0
-    Rest = Member b (map (λ (e : Event). e.body) (got link xs)) → Member b (map (λ (e : Event). e.body) (events_taken xs))
-
-    on : (event : Event) (test : Bool) → Member b (map (λ (e : Event). e.body) (cons_option (if test then Some event else None) (got link xs))) → Rest → Member b (event.body ∷ map (λ (e : Event). e.body) (events_taken xs))
-    on event true (inl same) rest = inl same
-    on event true (inr later) rest = inr (rest later)
-    on event false later rest = inr (rest later)
-
-    by : (what : What) → Member b (map (λ (e : Event). e.body) (cons_option (got_on link what) (got link xs))) → Rest → Member b (map (λ (e : Event). e.body) (cons_option (event_taken what) (events_taken xs)))
-    by (Given request) here rest = rest here
-    by (Taken event) here rest = on event (same_link event.link link) here rest
-    by (Made event) here rest = rest here
-    by (Answered id reply) here rest = rest here
 
 -- bodies that pass come into service s on service link k
 abbrev pub ComesOn : ℕ → ℕ → (Body → Bool) → Type 0
@@ -91,7 +71,7 @@ module _ (h : Histories) (lawful : IsLawful h) where
     -- the bodies of it
     pub settled-bodies : (link : Link) → IsLink link → (b : Body) → Member b (bodies_on link (journal_at h (sender_of link))) → Member b (map (λ (e : Event). e.body) (events_taken (journal_at h (receiver_of link))))
     settled-bodies link on b here =
-        member-got link b (journal_at h (receiver_of link)) (subst (λ l. Member b (map (λ (e : Event). e.body) l)) (settled-link link on) here)
+        got_taken link b (journal_at h (receiver_of link)) (subst (λ l. Member b (map (λ (e : Event). e.body) l)) (settled-link link on) here)
 
     module _ (s n k : ℕ) (small : s < services) (lt : n < services) (on : k < 16) (leaves : sender_of (Service k) ≡ n) (into : receiver_of (Service k) ≡ s) where
       -- those that pass, in the order in which they were made

@@ -37,10 +37,11 @@ use Rattle.market_laws.proofs.CutLists.{map-split}
 use Rattle.market_laws.proofs.CutMade.{steps-run, made-whole-on}
 use Rattle.market_laws.proofs.CutPlaces.{took_of}
 use Rattle.market_laws.proofs.CutSenders.{took-made, took-made-on}
+use Rattle.market_laws.proofs.MadeLaws.{event_taken-is}
 use Rattle.market_laws.proofs.OutLaws.{lane_of-small}
 use Rattle.market_laws.proofs.RepliesTold.{reply-is, first-told}
 use Rattle.market_laws.proofs.RowAskedLanes.{is_with}
-use Rattle.market_laws.proofs.RowToldLists.{event_taken-is, made-all, only_one}
+use Rattle.market_laws.proofs.RowToldLists.{made-all, only_one}
 use Rattle.market_laws.proofs.RunsBase.{member-split, member-between}
 use Rattle.market_laws.proofs.RunsCartTold.{IsEarly, ToldFor, at_once, by_stock, by_end, by_other, told-for}
 use Rattle.market_laws.proofs.RunsTold.{asked-once}
