@@ -31,7 +31,7 @@ use Rattle.market_events.specs.Formed.{body_formed, key_formed, id_formed, chang
 use Rattle.market_events.specs.Products.{change_in}
 use Rattle.market_events.specs.Requests.{same_key}
 use Rattle.market_events.specs.Services.{Role, IsRunOf, fits}
-use Rattle.market_events.specs.Standing.{Stands, step_of, with_step, same_name, is_named, value_of, CanTake, most_by_ask, most_touched}
+use Rattle.market_events.specs.Standing.{Stands, step_of, with_step, same_name, is_named, value_of, CanTake, may_change, most_by_ask, most_touched}
 use Rattle.market_events.specs.Steps.{Step, taken_bodies, key_cmp}
 use Rattle.market_events.proofs.BasketLaws.{find-basket_of, is_sorted-basket_of}
 use Rattle.market_events.proofs.CartLaws.{basket_at-push, basket_at-push-same}
@@ -44,6 +44,7 @@ use Rattle.market_events.proofs.SameLaws.{same_key-self, same_key-swap}
 use Rattle.market_events.proofs.CartRuns.{basket_of-few}
 use Rattle.market_events.proofs.StandingLaws.{is_fit, is_run_push, follows_step_of}
 use Rattle.market_events.proofs.StepLaws.{changes_taken-push, changes_taken-same}
+use Rattle.market_events.proofs.TouchedTables.{named_none, one_may_change, map_may_change}
 use Rattle.cart_replica.proofs.CopyCells.{look_cells-push, changes_taken-keys}
 use Rattle.cart_service.specs.BasketCells.{copy_table, basket_table, held_in, keys_in, names_in, asked_names, body_names}
 use Rattle.cart_service.specs.Tables.{Tables, lines_in, IsKept}
@@ -285,3 +286,22 @@ pub names_cover : (kept : Tables) (from : Link) (b : Body) (names : List CellNam
     → (steps : List Step) → Stands Role.Cart IsKept kept steps → fits Role.Cart steps from b ≡ true → (name : CellName) → is_named names name ≡ false
     → value_of (cells_of Role.Cart (with_step Role.Cart steps from b)) name ≡ value_of (cells_of Role.Cart steps) name
 names_cover kept from b names are steps stands fit name other = body_covers kept from b steps stands fit name (sym (ap (λ ns. is_named ns name) are) ∙ other)
+
+-- the cells that a body touches are of tables that it may change
+pub body_touched : (baskets : List (ℕ × List (ProductKey × Held))) (b : Body) (name : CellName) → is_named (body_names baskets b) name ≡ true → may_change Role.Cart b name ≡ true
+body_touched baskets (body.Changed key version change) name here = one_may_change Role.Cart (body.Changed key version change) (key_name copy_table key) refl name here
+body_touched baskets (body.Asked request) name here = by request.ask here
+  where
+    by : (what : Ask) → is_named (asked_names baskets what) name ≡ true → may_change Role.Cart (body.Asked (record { id = request.id; ask = what })) name ≡ true
+    by (ask.Line d q quantity voucher) named =
+        one_may_change Role.Cart (body.Asked (record { id = request.id; ask = ask.Line d q quantity voucher })) (basket_name basket_table (d, q)) refl name named
+    by (ask.Remove d q) named = one_may_change Role.Cart (body.Asked (record { id = request.id; ask = ask.Remove d q })) (basket_name basket_table (d, q)) refl name named
+    by (ask.Checkout d) named =
+        map_may_change Role.Cart (body.Asked (record { id = request.id; ask = ask.Checkout d })) (basket_name basket_table) (λ line. refl) name (keys_in d (lines_in baskets d)) named
+    by other named = named_none name named
+body_touched baskets other name here = named_none name here
+
+-- names that are those of the body
+pub names_touched : (baskets : List (ℕ × List (ProductKey × Held))) (b : Body) (names : List CellName) → names ≡ body_names baskets b
+    → (name : CellName) → is_named names name ≡ true → may_change Role.Cart b name ≡ true
+names_touched baskets b names are name here = body_touched baskets b name (sym (ap (λ ns. is_named ns name) are) ∙ here)

@@ -7,9 +7,5 @@ mod baskets;
 mod carts;
 mod cells;
 mod telling;
-#[cfg(test)]
-mod tests;
-#[cfg(test)]
-mod trial;
 
 pub use carts::Carts;

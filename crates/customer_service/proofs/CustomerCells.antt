@@ -18,7 +18,7 @@ use Rattle.market_events.specs.Copies.{last_some}
 use Rattle.market_events.specs.Customers.{confirms_for, fails_for}
 use Rattle.market_events.specs.Orders.{items_in}
 use Rattle.market_events.specs.Services.{Role, IsRunOf, fits}
-use Rattle.market_events.specs.Standing.{Stands, CanTake, with_step, step_of, same_name, is_named, has_cell, value_of, most_touched}
+use Rattle.market_events.specs.Standing.{Stands, CanTake, with_step, step_of, same_name, is_named, has_cell, value_of, may_change, most_touched}
 use Rattle.market_events.specs.Steps.{Step}
 use Rattle.market_events.specs.WellFormed.{IsId}
 use Rattle.market_events.proofs.CellLaws.{value_at, same_name-same}
@@ -138,6 +138,12 @@ pub paying : (b : Body) (customer : ℕ)
     → customers_in b ≡ customer ∷ []
 paying b customer (inl it) = ap customers_in it.3
 paying b customer (inr it) = ap customers_in it.2
+
+pub paying_touched : (b : Body) (customer : ℕ)
+    → ((checkout : RequestId) × (lines : List PricedLine) × (total : ℕ) × (b ≡ body.Confirmed checkout customer lines total)) ⊎ ((checkout : RequestId) × (rule : PayRule) × (b ≡ body.Failed checkout customer rule))
+    → may_change Role.Customer b (name_by customer) ≡ true
+paying_touched b customer (inl it) = ap (λ x. may_change Role.Customer x (name_by customer)) it.3
+paying_touched b customer (inr it) = ap (λ x. may_change Role.Customer x (name_by customer)) it.2
 
 pub no_customers : (b : Body)
     → ((checkout : RequestId) (customer : ℕ) (lines : List PricedLine) (total : ℕ) → b ≡ body.Confirmed checkout customer lines total → ⊥)

@@ -3,4 +3,3 @@ pub mod Counting
 pub mod Tabling
 pub mod Taken
 pub mod CustomerCells
-pub mod Testing

@@ -1,3 +1,2 @@
 pub mod Tallies
 pub mod Cells
-pub mod Examples

@@ -5,8 +5,6 @@
 mod customers;
 mod names;
 mod tallies;
-#[cfg(test)]
-mod tests;
 
 pub use customers::Customers;
 pub use tallies::Tally;

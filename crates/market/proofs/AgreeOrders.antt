@@ -1,7 +1,8 @@
 -- Orders: what they answer, and how a checkout and a delivery keep them in step with what was accepted.
-use Rattle.std.proofs.Common.{◌≡◌, ℕ, ◌+◌, ◌<◌, Bool, true, false, ◌&&◌, ◌||◌, not, ◌==◌, List, [], ◌∷◌, ◌++◌, Option, Some, None, length, if◌then◌else◌, sum_by, refl, ap, sym, ◌∙◌, append-nil}
-use Rattle.std.specs.List.{list_any, list_all}
+use Rattle.std.proofs.Common.{◌≡◌, ℕ, ◌+◌, ◌<◌, Bool, true, false, ◌&&◌, ◌||◌, not, ◌==◌, List, [], ◌∷◌, ◌++◌, Option, Some, None, length, filter, if◌then◌else◌, sum_by, refl, ap, sym, ◌∙◌, append-nil}
+use Rattle.std.specs.List.{list_any, list_all, flat_map}
 use Rattle.std.proofs.lemmas.List.Concat.{flat_map-append}
+use Rattle.std.proofs.lemmas.List.Elements.{filter-append}
 use Rattle.std.proofs.lemmas.List.Folds.{list_any-append}
 use Rattle.market_amounts.specs.declared.keys.RequestId.{RequestId}
 use Rattle.market_events.specs.declared.bodies.Body.{Body}
@@ -16,23 +17,24 @@ use Rattle.market_events.specs.declared.replies.OrderStatus.{OrderStatus}
 use Rattle.market_events.specs.declared.replies.OrderStatus.TheVariants as status
 use Rattle.market_events.specs.declared.requests.Ask.{Ask}
 use Rattle.market_events.specs.Formed.{body_formed, request_id_formed, id_formed, lines_formed, checkout_formed, items_formed}
-use Rattle.market_events.specs.Orders.{checkouts_taken, is_of, is_taken, is_nil, ships, items_taken, order_status, order_sums, order_asked, OrderSums}
+use Rattle.market_events.specs.Orders.{checkouts_taken, is_of, is_left, is_taken, is_nil, ships, items_taken, lines_left, order_status, order_sums, order_asked, OrderSums}
 use Rattle.market_events.specs.Requests.{same_id}
 use Rattle.market_events.specs.Services.{Role, answers, fits, most_steps, is_line_of, is_for_lines, is_for, items_apart, order_item_fits}
 use Rattle.market_events.specs.Standing.{step_of, with_step}
 use Rattle.market_events.specs.Steps.{Step, same_lines}
 use Rattle.market_events.specs.Stocks.{Reservation, fails, confirms, is_settled}
 use Rattle.market_events.specs.WellFormed.{total_of}
-use Rattle.market_events.proofs.ListLaws.{and_from, and_both, or_true, or_left, or_false, any_weaker, list_any-push, flat_map-push}
+use Rattle.market_events.proofs.ListLaws.{and_from, and_both, or_true, or_left, or_false, any_weaker, list_any-push}
 use Rattle.market_events.proofs.OrderLaws.{checkouts_taken-same, checkouts_taken-confirmed, has_order-same, has_order-confirmed, order_total-same, order_total-confirmed, order_total-new, items_taken-same, items_taken-push}
 use Rattle.market_events.proofs.OrderRuns.{answers-order}
-use Rattle.market_events.proofs.ReservationLaws.{lines-none}
+use Rattle.market_events.proofs.ReservationLaws.{listed-none}
 use Rattle.market_events.proofs.SameLaws.{same_id-self, same_lines-self}
 use Rattle.market_events.proofs.StepLaws.{is_taken-same, is_taken-push, is_settled-push}
 use Rattle.market_history.specs.Acts.{Acts, lines_of, lines_if, cost_if, status_by, lines_waiting, order_table}
+use Rattle.market_laws.proofs.OnceLists.{joined-passing}
 use Rattle.market.specs.Agreeing.{OrdersAgree}
 use Rattle.market.specs.Carrying.{IsFresh, most_made}
-use Rattle.market.proofs.Checkouts.{any-whole, any-unpaid, lines-whole, lines-unpaid, total-whole, total-unpaid, is_line_in, line_among, all_weaker}
+use Rattle.market.proofs.Checkouts.{any-whole, any-unpaid, lines-own, orders-whole, orders-unpaid, total-whole, total-unpaid, is_line_in, line_among, all_weaker}
 use Rattle.market.proofs.Fresh.{same_number, fits_by, few_before, few_after_one, few_after_two, none_ordered, none_settled, none_shipped}
 
 -- the status by five facts: the first that holds
@@ -46,23 +48,32 @@ module _ (steps : List Step) (acts : Acts) (agree : OrdersAgree steps acts) wher
   status_same : (id : RequestId) → order_status steps id ≡ status_by acts id
   status_same id =
       by_facts (is_taken confirms steps id) (agree.known id ∙ list_any-append (is_of id) acts.whole acts.unpaid) (agree.failed id)
-      (ap (λ items. is_nil (lines_waiting (lines_of (checkouts_taken steps) id) items id)) agree.items ∙ ap (λ lines. is_nil (lines_waiting lines acts.items id)) (agree.lines id))
+      (ap (λ items. is_nil (lines_waiting (checkouts_taken steps) items id)) agree.items ∙ ap is_nil waiting_same)
       (agree.shipped id)
       ∙ either (list_any (is_of id) acts.whole) (list_any (is_of id) acts.unpaid) refl (is_taken confirms steps id)
     where
       by_facts : (paid : Bool) {has failed done shipped has' failed' done' shipped' : Bool} → has ≡ has' → failed ≡ failed' → done ≡ done' → shipped ≡ shipped' → by_tests has failed done shipped paid ≡ by_tests has' failed' done' shipped' paid
       by_facts paid a b c d = λ i. by_tests (a i) (b i) (c i) (d i) paid
 
-      only_whole : list_any (is_of id) acts.unpaid ≡ false → lines_of (acts.whole ++ acts.unpaid) id ≡ lines_of acts.whole id
-      only_whole none = flat_map-append (lines_if id) acts.whole acts.unpaid ∙ ap (λ ls. lines_of acts.whole id ++ ls) (lines-none id acts.unpaid none) ∙ append-nil (lines_of acts.whole id)
+      own : (rs : List Reservation) → lines_waiting rs acts.items id ≡ flat_map (lines_left acts.items id) (filter (is_of id) rs)
+      own rs = joined-passing (is_of id) (lines_left acts.items id) (λ r other. ap (λ b. if b then filter (is_left acts.items r) r.lines else []) other) rs
+
+      waiting_same : lines_waiting (checkouts_taken steps) acts.items id ≡ lines_waiting (acts.whole ++ acts.unpaid) acts.items id
+      waiting_same = own (checkouts_taken steps) ∙ ap (flat_map (lines_left acts.items id)) (agree.orders id) ∙ sym (own (acts.whole ++ acts.unpaid))
+
+      only_whole : list_any (is_of id) acts.unpaid ≡ false → lines_waiting (acts.whole ++ acts.unpaid) acts.items id ≡ lines_waiting acts.whole acts.items id
+      only_whole none =
+          flat_map-append (lines_left acts.items id) acts.whole acts.unpaid
+          ∙ ap (λ ls. lines_waiting acts.whole acts.items id ++ ls) (listed-none (λ (r : Reservation). filter (is_left acts.items r) r.lines) id acts.unpaid none)
+          ∙ append-nil (lines_waiting acts.whole acts.items id)
 
       either : (w u : Bool) → list_any (is_of id) acts.unpaid ≡ u → (paid : Bool)
-          → by_tests (w || u) u (is_nil (lines_waiting (lines_of (acts.whole ++ acts.unpaid) id) acts.items id)) w paid
-          ≡ (if u then Some status.Cancelled else if not w then None else if is_nil (lines_waiting (lines_of acts.whole id) acts.items id) then Some status.Delivered else Some status.Shipped)
+          → by_tests (w || u) u (is_nil (lines_waiting (acts.whole ++ acts.unpaid) acts.items id)) w paid
+          ≡ (if u then Some status.Cancelled else if not w then None else if is_nil (lines_waiting acts.whole acts.items id) then Some status.Delivered else Some status.Shipped)
       either true true none paid = refl
       either false true none paid = refl
       either false false none paid = refl
-      either true false none paid = ap (λ lines. if is_nil (lines_waiting lines acts.items id) then Some status.Delivered else Some status.Shipped) (only_whole none)
+      either true false none paid = ap (λ lines. if is_nil lines then Some status.Delivered else Some status.Shipped) (only_whole none)
 
   table_same : order_sums steps ≡ order_table acts
   table_same = λ i. of_both (λ id. status_same id i) (λ id. agree.total id i)
@@ -79,7 +90,7 @@ module _ (steps : List Step) (acts : Acts) (agree : OrdersAgree steps acts) wher
       let s = step_of Role.Order steps from (body.Asked (record { id = id; ask = what })) in
       record {
         known = λ i. has_order-same steps s i refl ∙ agree.known i;
-        lines = λ i. ap (λ rs. lines_of rs i) (checkouts_taken-same steps s refl) ∙ agree.lines i;
+        orders = λ i. ap (filter (is_of i)) (checkouts_taken-same steps s refl) ∙ agree.orders i;
         total = λ i. order_total-same steps s i refl ∙ agree.total i;
         failed = λ i. is_taken-same fails steps s i refl ∙ agree.failed i;
         shipped = λ i. is_taken-same ships steps s i refl ∙ agree.shipped i;
@@ -168,17 +179,17 @@ module _ (steps : List Step) (acts : Acts) (agree : OrdersAgree steps acts) (id 
       answers-order orders_paid (Service 13) (body.Shipped id)
       ∙ ap (λ total. (Service 7, body.Ended id (ending.Whole total)) ∷ []) (order_total-same orders_invoiced second id refl ∙ order_total-new steps first id customer lines refl new)
 
-  lines_invoiced : (i : RequestId) → lines_of (checkouts_taken orders_invoiced) i ≡ lines_of (acts.whole ++ acts.unpaid) i ++ lines_if i r
-  lines_invoiced i =
-      ap (λ rs. lines_of rs i) (checkouts_taken-confirmed steps first id customer lines refl) ∙ flat_map-push (lines_if i) (checkouts_taken steps) r
-      ∙ ap (λ ls. ls ++ lines_if i r) (agree.lines i)
+  orders_now : (i : RequestId) → filter (is_of i) (checkouts_taken orders_invoiced) ≡ filter (is_of i) (acts.whole ++ acts.unpaid) ++ filter (is_of i) (r ∷ [])
+  orders_now i =
+      ap (filter (is_of i)) (checkouts_taken-confirmed steps first id customer lines refl) ∙ filter-append (is_of i) (checkouts_taken steps) (r ∷ [])
+      ∙ ap (λ rs. rs ++ filter (is_of i) (r ∷ [])) (agree.orders i)
 
   pub orders_whole : (after : Acts) → after.whole ≡ acts.whole ++ r ∷ [] → after.unpaid ≡ acts.unpaid → after.items ≡ acts.items → OrdersAgree orders_shipped after
   orders_whole after whole unpaid items = record {
     known = λ i. has_order-same orders_paid third i refl ∙ has_order-same orders_invoiced second i refl ∙ has_order-confirmed steps first id customer lines refl i
         ∙ ap (λ b. b || same_id id i) (agree.known i) ∙ sym (any-whole acts.whole acts.unpaid r i) ∙ sym (λ j. list_any (is_of i) (whole j ++ unpaid j));
-    lines = λ i. ap (λ rs. lines_of rs i) (checkouts_taken-same orders_paid third refl ∙ checkouts_taken-same orders_invoiced second refl) ∙ lines_invoiced i
-        ∙ sym (lines-whole acts.whole acts.unpaid r i new_checkout) ∙ sym (λ j. lines_of (whole j ++ unpaid j) i);
+    orders = λ i. ap (filter (is_of i)) (checkouts_taken-same orders_paid third refl ∙ checkouts_taken-same orders_invoiced second refl) ∙ orders_now i
+        ∙ sym (orders-whole acts.whole acts.unpaid r i new_checkout) ∙ sym (λ j. filter (is_of i) (whole j ++ unpaid j));
     total = λ i. order_total-same orders_paid third i refl ∙ order_total-same orders_invoiced second i refl ∙ order_total-confirmed steps first id customer lines refl i
         ∙ ap (λ n. n + cost_if i r) (agree.total i) ∙ sym (total-whole acts.whole acts.unpaid r i) ∙ sym (λ j. sum_by (cost_if i) (whole j) + sum_by (cost_if i) (unpaid j));
     failed = λ i. is_taken-same fails orders_paid third i refl ∙ is_taken-same fails orders_invoiced second i refl ∙ is_taken-same fails steps first i refl ∙ agree.failed i
@@ -217,8 +228,8 @@ module _ (steps : List Step) (acts : Acts) (agree : OrdersAgree steps acts) (id 
     orders_unpaid after whole unpaid items = record {
       known = λ i. has_order-same orders_invoiced failing i refl ∙ has_order-confirmed steps first id customer lines refl i
           ∙ ap (λ b. b || same_id id i) (agree.known i) ∙ sym (any-unpaid acts.whole acts.unpaid r i) ∙ sym (λ j. list_any (is_of i) (whole j ++ unpaid j));
-      lines = λ i. ap (λ rs. lines_of rs i) (checkouts_taken-same orders_invoiced failing refl) ∙ lines_invoiced i
-          ∙ sym (lines-unpaid acts.whole acts.unpaid r i) ∙ sym (λ j. lines_of (whole j ++ unpaid j) i);
+      orders = λ i. ap (filter (is_of i)) (checkouts_taken-same orders_invoiced failing refl) ∙ orders_now i
+          ∙ sym (orders-unpaid acts.whole acts.unpaid r i) ∙ sym (λ j. filter (is_of i) (whole j ++ unpaid j));
       total = λ i. order_total-same orders_invoiced failing i refl ∙ order_total-confirmed steps first id customer lines refl i
           ∙ ap (λ n. n + cost_if i r) (agree.total i) ∙ sym (total-unpaid acts.whole acts.unpaid r i) ∙ sym (λ j. sum_by (cost_if i) (whole j) + sum_by (cost_if i) (unpaid j));
       failed = λ i. is_taken-push fails orders_invoiced failing i ∙ ap (λ b. b || same_id id i) (is_taken-same fails steps first i refl ∙ agree.failed i)
@@ -233,11 +244,14 @@ module _ (steps : List Step) (acts : Acts) (agree : OrdersAgree steps acts) (ite
   abbrev pub orders_delivered : List Step
   orders_delivered = with_step Role.Order steps (Service 13) (body.Delivered items)
 
+  lines_same : (id : RequestId) → lines_of (checkouts_taken steps) id ≡ lines_of (acts.whole ++ acts.unpaid) id
+  lines_same id = lines-own id (checkouts_taken steps) ∙ ap (flat_map (lines_if id)) (agree.orders id) ∙ sym (lines-own id (acts.whole ++ acts.unpaid))
+
   item_fits : (item : Item) → is_line_in acts.whole item ≡ true → order_item_fits steps item ≡ true
   item_fits item among =
       and_from (is_taken ships steps item.checkout) (list_any (λ (r : Reservation). is_of item.checkout r && is_line_of r.lines item) (checkouts_taken steps))
       (agree.shipped item.checkout ∙ any_weaker (λ (r : Reservation). is_of item.checkout r && is_line_of r.lines item) (is_of item.checkout) (λ r both. (and_both (is_of item.checkout r) (is_line_of r.lines item) both).0) acts.whole among)
-      (line_among item.checkout item (checkouts_taken steps) ∙ ap (λ lines. is_line_of lines item) (agree.lines item.checkout) ∙ sym (line_among item.checkout item (acts.whole ++ acts.unpaid))
+      (line_among item.checkout item (checkouts_taken steps) ∙ ap (λ lines. is_line_of lines item) (lines_same item.checkout) ∙ sym (line_among item.checkout item (acts.whole ++ acts.unpaid))
       ∙ list_any-append (λ (r : Reservation). is_of item.checkout r && is_line_of r.lines item) acts.whole acts.unpaid
       ∙ or_left (is_line_in acts.whole item) (list_any (λ (r : Reservation). is_of item.checkout r && is_line_of r.lines item) acts.unpaid) among)
 
@@ -255,7 +269,7 @@ module _ (steps : List Step) (acts : Acts) (agree : OrdersAgree steps acts) (ite
       let s = step_of Role.Order steps (Service 13) (body.Delivered items) in
       record {
         known = λ i. has_order-same steps s i refl ∙ agree.known i ∙ sym (λ j. list_any (is_of i) (whole j ++ unpaid j));
-        lines = λ i. ap (λ rs. lines_of rs i) (checkouts_taken-same steps s refl) ∙ agree.lines i ∙ sym (λ j. lines_of (whole j ++ unpaid j) i);
+        orders = λ i. ap (filter (is_of i)) (checkouts_taken-same steps s refl) ∙ agree.orders i ∙ sym (λ j. filter (is_of i) (whole j ++ unpaid j));
         total = λ i. order_total-same steps s i refl ∙ agree.total i ∙ sym (λ j. sum_by (cost_if i) (whole j) + sum_by (cost_if i) (unpaid j));
         failed = λ i. is_taken-same fails steps s i refl ∙ agree.failed i ∙ ap (list_any (is_of i)) (sym unpaid);
         shipped = λ i. is_taken-same ships steps s i refl ∙ agree.shipped i ∙ ap (list_any (is_of i)) (sym whole);

@@ -25,7 +25,8 @@ use Rattle.market_events.proofs.ShipmentLaws.{packages-push, packages-same, item
 use Rattle.market_events.proofs.ShipmentRuns.{ShipmentRun-of}
 use Rattle.market_events.proofs.StockRuns.{checkout_formed-lines, lines_formed-rise}
 use Rattle.market_history.specs.Acts.{Acts, packages_for, packages_by, waiting_by, shipment_table}
-use Rattle.market_laws.proofs.RunsApart.{apart-append, apart-filter, paid-apart}
+use Rattle.market_laws.specs.Runs.{lines_apart}
+use Rattle.market_laws.proofs.RunsApart.{apart-append, apart-items, apart-filter, paid-apart}
 use Rattle.market.specs.Agreeing.{ShipmentsAgree}
 use Rattle.market.specs.Carrying.{IsFresh, most_made}
 use Rattle.market.proofs.Checkouts.{is_line_in}
@@ -56,9 +57,10 @@ module _ (steps : List Step) (acts : Acts) (agree : ShipmentsAgree steps acts) w
 
   pub delivered_apart : items_apart acts.items delivered ≡ true
   delivered_apart =
-      apart-filter (goes_with (oldest_of (waiting_by acts.whole acts.items))) acts.items acts.items (λ p kept here. here) (waiting_by acts.whole acts.items)
+      apart-items acts.items delivered
+      (apart-filter (goes_with (oldest_of (waiting_by acts.whole acts.items))) acts.items acts.items (λ p kept here. here) (waiting_by acts.whole acts.items)
       (apart-filter (λ (p : Item). not (list_any (is_item_of p.checkout p.key) acts.items)) [] acts.items (λ p kept none. not_true (list_any (is_item_of p.checkout p.key) acts.items) kept) (packages_by acts.whole)
-      (ap (items_apart []) (sym agree.packed) ∙ agree.apart))
+      (ap (lines_apart []) (sym agree.packed) ∙ agree.apart)))
 
   pub delivered_lines : list_all (is_line_in acts.whole) delivered ≡ true
   delivered_lines =
@@ -82,7 +84,7 @@ module _ (steps : List Step) (acts : Acts) (agree : ShipmentsAgree steps acts) w
         items = items_made-push steps s
             ∙ (λ i. agree.items i ++ flat_map items_in (filter_map (body_on (Service 15)) (shipments_answer from id ask.Deliver i)))
             ∙ ap (λ items. acts.items ++ items) (deliver_rows-items id delivered (length (oldest_of (waiting_by acts.whole acts.items)))) ∙ sym more;
-        apart = ap (items_apart []) (packages-same steps s refl) ∙ agree.apart;
+        apart = ap (lines_apart []) (packages-same steps s refl) ∙ agree.apart;
       }
 
 -- a checkout that is paid
@@ -111,7 +113,7 @@ module _ (steps : List Step) (acts : Acts) (agree : ShipmentsAgree steps acts) (
       record {
         packed = packages-push steps s ∙ ap (λ ps. ps ++ packages_for r) agree.packed ∙ sym (flat_map-push packages_for acts.whole r) ∙ ap packages_by (sym whole);
         items = items_made-same steps s (ap (λ made. flat_map items_in (filter_map (body_on (Service 15)) made)) shipment_made) ∙ agree.items ∙ sym items;
-        apart = ap (items_apart []) (packages-push steps s) ∙ apart-append [] (packages steps) (packages_for r)
-            ∙ and_from (items_apart [] (packages steps)) (items_apart (packages steps) (packages_for r)) agree.apart
+        apart = ap (lines_apart []) (packages-push steps s) ∙ apart-append [] (packages steps) (packages_for r)
+            ∙ and_from (lines_apart [] (packages steps)) (lines_apart (packages steps) (packages_for r)) agree.apart
             (paid-apart id customer lines 0 (packages steps) ((ShipmentRun-of steps run).unpacked id (none_confirmed id steps fresh)) (lines_formed-rise lines (checkout_formed-lines id customer lines formed)));
       }

@@ -1,7 +1,7 @@
 -- Why a run with a valid input ends well.
 use Rattle.std.proofs.Common.{◌≡◌, ◌≢◌, ◌≤◌, ◌<◌, ℕ, List, length, Result, Ok, Err, ◌⊎◌, inl, inr, refl, sym, ◌∙◌, arith}
 use Rattle.market_events.specs.declared.requests.Request.{Request}
-use Rattle.market_events.specs.declared.workload.WorkRule.{WorkRule}
+use Rattle.market_texts.specs.declared.workload.WorkRule.{WorkRule}
 use Rattle.market.specs.declared.statuses.InputRule.{InputRule}
 use Rattle.market.specs.declared.statuses.Status.{Status}
 use Rattle.market.specs.declared.statuses.Status.TheVariants.{Done, Usage, InputTooLong, BadInput, ReadFault, WriteFault, OutOfMemory}

@@ -1,5 +1,5 @@
 -- The sums of a service stay in step where what they speak of stays.
-use Rattle.std.proofs.Common.{◌≡◌, ℕ, ◌+◌, ◌++◌, sum_by, ap, sym, ◌∙◌, List}
+use Rattle.std.proofs.Common.{◌≡◌, ℕ, ◌+◌, ◌++◌, filter, sum_by, ap, sym, ◌∙◌, List}
 use Rattle.std.specs.List.{list_any}
 use Rattle.market_events.specs.Orders.{is_of}
 use Rattle.market_events.specs.Steps.{Step}
@@ -27,7 +27,7 @@ module _ (steps : List Step) (acts after : Acts) where
   pub orders_hold : OrdersAgree steps acts → after.whole ≡ acts.whole → after.unpaid ≡ acts.unpaid → after.items ≡ acts.items → OrdersAgree steps after
   orders_hold agree whole unpaid items = record {
     known = λ id. agree.known id ∙ sym (λ j. list_any (is_of id) (whole j ++ unpaid j));
-    lines = λ id. agree.lines id ∙ sym (λ j. lines_of (whole j ++ unpaid j) id);
+    orders = λ id. agree.orders id ∙ sym (λ j. filter (is_of id) (whole j ++ unpaid j));
     total = λ id. agree.total id ∙ sym (λ j. sum_by (cost_if id) (whole j) + sum_by (cost_if id) (unpaid j));
     failed = λ id. agree.failed id ∙ ap (list_any (is_of id)) (sym unpaid);
     shipped = λ id. agree.shipped id ∙ ap (list_any (is_of id)) (sym whole);

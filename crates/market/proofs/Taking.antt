@@ -1,5 +1,5 @@
 -- What was taken of a source so far, and one piece more.
-use Rattle.std.proofs.Common.{◌≡◌, ◌≤◌, ℕ, ◌+◌, List, [], ◌++◌, length, append_assoc, Option, refl, ap, ◌∙◌, sym, arith}
+use Rattle.std.proofs.Common.{◌≡◌, ℕ, ◌+◌, List, [], ◌++◌, length, append_assoc, Option, refl, ap, ◌∙◌, sym, arith}
 use Rattle.market_edges.specs.Counts.{raised_by}
 use Rattle.market.specs.Input.{Takes}
 
@@ -7,7 +7,7 @@ use Rattle.market.specs.Input.{Takes}
 pub record HasTaken (before after : Option (List ℕ)) (taken_before taken_after faults_before faults_after : ℕ) (bytes : List ℕ) : Type 0 where
   pub these : Takes before after bytes
   pub taken : taken_after ≡ raised_by taken_before (length bytes)
-  pub faults : faults_before ≤ faults_after
+  pub faults : faults_after ≡ faults_before
 
 pub takes_none : (left : Option (List ℕ)) → Takes left left []
 takes_none left all told = (all, refl, told)

@@ -2,10 +2,10 @@
 use Rattle.std.proofs.Common.{◌≡◌, ℕ, ◌+◌, List, [], ◌∷◌, ◌++◌, Result, Ok, Err, refl, ap, ◌∙◌, sym, append_assoc, Vec, Global, ◌≤◌, ◌<◌, length, Bool, true, false, Bor, arith}
 use Rattle.std.proofs.lemmas.List.{append-nil}
 use Rattle.csv.specs.declared.reader.Reader.{Reader}
-use Rattle.market_events.specs.Results.{◌>>=◌}
-use Rattle.market_events.specs.Workload.{request_of}
+use Rattle.market_words.specs.Results.{◌>>=◌}
+use Rattle.market_texts.specs.Workload.{request_of}
 use Rattle.market_events.specs.declared.requests.Request.{Request}
-use Rattle.market_events.specs.declared.workload.WorkRule.{WorkRule}
+use Rattle.market_texts.specs.declared.workload.WorkRule.{WorkRule}
 use Rattle.market.specs.Workload.{at_record, requests_after, workload_of, TellsFault}
 use Rattle.market.specs.declared.workload.WorkFault.{WorkFault}
 use Rattle.market.specs.declared.workload.WorkFault.TheVariants.{Line, OutOfMemory}

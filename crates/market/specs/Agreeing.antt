@@ -1,5 +1,5 @@
 -- The sums over the steps of the services are the tables of the sequential market, and no checkout is open.
-use Rattle.std.specs.Prelude.{◌≡◌, ℕ, ◌≤◌, true, false, List, [], ◌∷◌, ◌++◌, length, filter_map}
+use Rattle.std.specs.Prelude.{◌≡◌, ℕ, ◌≤◌, true, false, List, [], ◌∷◌, ◌++◌, length, filter, filter_map}
 use Rattle.std.specs.List.{list_any, list_all}
 use Rattle.market_amounts.specs.declared.keys.ProductKey.{ProductKey}
 use Rattle.market_amounts.specs.declared.keys.RequestId.{RequestId}
@@ -11,11 +11,12 @@ use Rattle.market_events.specs.Payments.{limit_of, spent}
 use Rattle.market_events.specs.Products.{changes_made}
 use Rattle.market_events.specs.Requests.{same_id}
 use Rattle.market_events.specs.Sellers.{invoice_lines, seller_changes}
-use Rattle.market_events.specs.Services.{Role, items_apart}
+use Rattle.market_events.specs.Services.{Role}
 use Rattle.market_events.specs.Shipments.{packages, items_made}
 use Rattle.market_events.specs.Steps.{Step, Sending, taken_bodies}
 use Rattle.market_events.specs.Stocks.{Reservation, reservations, fails, is_settled, sold, stocked}
 use Rattle.market_history.specs.Acts.{Acts, line_at, pieces_stocked, pieces_sold, lines_of, total_by, limit_by, paid_by, packages_by, count_for}
+use Rattle.market_laws.specs.Runs.{lines_apart}
 use Rattle.market.specs.Carrying.{Taken, IsTrace, IsFresh, most_made, steps_of, all_passed, with_request, request_fits, request_answers}
 use Rattle.market_history.specs.Sequential.{reply_told, sequential_reply, sequential_step}
 
@@ -36,7 +37,7 @@ pub record StocksAgree (steps : List Step) (acts : Acts) : Type 0 where
 -- each order's checkout is whole and was shipped, or was not paid
 pub record OrdersAgree (steps : List Step) (acts : Acts) : Type 0 where
   pub known : (id : RequestId) → list_any (is_of id) (checkouts_taken steps) ≡ list_any (is_of id) (acts.whole ++ acts.unpaid)
-  pub lines : (id : RequestId) → lines_of (checkouts_taken steps) id ≡ lines_of (acts.whole ++ acts.unpaid) id
+  pub orders : (id : RequestId) → filter (is_of id) (checkouts_taken steps) ≡ filter (is_of id) (acts.whole ++ acts.unpaid)
   pub total : (id : RequestId) → order_total steps id ≡ total_by acts id
   pub failed : (id : RequestId) → is_taken fails steps id ≡ list_any (is_of id) acts.unpaid
   pub shipped : (id : RequestId) → is_taken ships steps id ≡ list_any (is_of id) acts.whole
@@ -50,7 +51,7 @@ pub record PaymentsAgree (steps : List Step) (acts : Acts) : Type 0 where
 pub record ShipmentsAgree (steps : List Step) (acts : Acts) : Type 0 where
   pub packed : packages steps ≡ packages_by acts.whole
   pub items : items_made steps ≡ acts.items
-  pub apart : items_apart [] (packages steps) ≡ true
+  pub apart : lines_apart [] (packages steps) ≡ true
 
 pub record CustomersAgree (steps : List Step) (acts : Acts) : Type 0 where
   pub confirmed : (customer : ℕ) → confirmed_count steps customer ≡ count_for acts.whole customer

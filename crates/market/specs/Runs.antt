@@ -1,7 +1,7 @@
 -- What a run says of its input.
 use Rattle.std.specs.Prelude.{◌≡◌, ℕ, List, Result, Err}
 use Rattle.market_events.specs.declared.requests.Request.{Request}
-use Rattle.market_events.specs.declared.workload.WorkRule.{WorkRule}
+use Rattle.market_texts.specs.declared.workload.WorkRule.{WorkRule}
 use Rattle.market.specs.declared.statuses.Status.{Status}
 use Rattle.market.specs.declared.statuses.Status.TheVariants.{Done, Usage, InputTooLong, BadInput, ReadFault, WriteFault, OutOfMemory}
 use Rattle.market.specs.Statuses.{rule_of}

@@ -1,7 +1,8 @@
 -- How commands end.
-use Rattle.std.specs.Prelude.{ℕ, Bool, true, false}
-use Rattle.market_events.specs.declared.workload.WorkRule.{WorkRule}
-use Rattle.market_events.specs.declared.workload.WorkRule.TheVariants as work
+use Rattle.std.specs.Prelude.{ℕ, Bool, true, false, List, [], ◌∷◌, ◌++◌, codes}
+use Rattle.std.specs.Fmt.{decimal}
+use Rattle.market_texts.specs.declared.workload.WorkRule.{WorkRule}
+use Rattle.market_texts.specs.declared.workload.WorkRule.TheVariants as work
 use Rattle.market.specs.declared.statuses.InputRule.{InputRule}
 use Rattle.market.specs.declared.statuses.InputRule.TheVariants as input
 use Rattle.market.specs.declared.statuses.Status.{Status}
@@ -13,6 +14,28 @@ rule_of work.Fields = input.Fields
 rule_of work.Number = input.Number
 rule_of work.Range = input.Range
 rule_of work.Kind = input.Kind
+
+-- the text of a rule
+abbrev pub rule_text : InputRule → List ℕ
+rule_text input.Fields = codes "fields"
+rule_text input.Number = codes "number"
+rule_text input.Range = codes "range"
+rule_text input.Kind = codes "kind"
+
+-- the text of a status
+abbrev pub status_text : Status → List ℕ
+status_text Done = []
+status_text Usage = codes "usage"
+status_text InputTooLong = codes "input too long"
+status_text (BadInput n rule) = codes "line " ++ (decimal n ++ (codes ": " ++ rule_text rule))
+status_text ReadFault = codes "read fault"
+status_text WriteFault = codes "write fault"
+status_text OutOfMemory = codes "out of memory"
+
+-- what is told of a status: its text and a line feed, and nothing where the command was done
+abbrev pub told_of : Status → List ℕ
+told_of Done = []
+told_of status = status_text status ++ 10 ∷ []
 
 -- the exit status
 abbrev pub exit_of : Status → ℕ

@@ -1,9 +1,9 @@
 -- The requests of an input, or its first bad record.
 use Rattle.std.specs.Prelude.{◌≡◌, ℕ, ◌+◌, List, [], ◌∷◌, Result, Ok, Err}
-use Rattle.market_events.specs.Results.{◌>>=◌}
-use Rattle.market_events.specs.Workload.{request_of}
+use Rattle.market_words.specs.Results.{◌>>=◌}
+use Rattle.market_texts.specs.Workload.{request_of}
 use Rattle.market_events.specs.declared.requests.Request.{Request}
-use Rattle.market_events.specs.declared.workload.WorkRule.{WorkRule}
+use Rattle.market_texts.specs.declared.workload.WorkRule.{WorkRule}
 use Rattle.market.specs.Records.{records_of}
 use Rattle.market.specs.declared.workload.WorkFault.{WorkFault}
 use Rattle.market.specs.declared.workload.WorkFault.TheVariants.{Line, OutOfMemory}

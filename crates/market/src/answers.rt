@@ -8,7 +8,8 @@ ghost use Rattle.market.specs.Output.{run_output, count_lines, id_text};
 
 use crate::hand::Hand;
 use market_amounts::RequestId;
-use market_events::{Reply, Request, reply_text};
+use market_events::{Reply, Request};
+use market_texts::reply_text;
 use std::alloc::{AllocError, Global};
 
 /// What a run of these requests writes.

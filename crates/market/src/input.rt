@@ -31,6 +31,7 @@ pub fn read_input<S: Source>(alloc: Global, input: &mut S) -> Result<Vec<u8>, In
     ensures too_long { result ≡ Err InputEnd.TooLong → (bytes : List ℕ) × (length bytes ≡ MOST_BYTES + 1)
         × (S.taken input.new ≡ raised_by (S.taken input.old) (MOST_BYTES + 1)) × Takes (S.left input.old) (S.left input.new) bytes }
     ensures fault { result ≡ Err InputEnd.Fault → Rose (S.faults input.old) (S.faults input.new) }
+    ensures no_fault { result ≢ Err InputEnd.Fault → S.faults input.new ≡ S.faults input.old }
     ensures few { result ≢ Err InputEnd.TooLong → result ≢ Err InputEnd.OutOfMemory
         → (n : ℕ) × (n ≤ MOST_BYTES) × (S.taken input.new ≡ raised_by (S.taken input.old) n) }
     ensures never_falls { S.faults input.old ≤ S.faults input.new }
@@ -66,6 +67,7 @@ fn read_piece<S: Source>(
     ensures within { vec_len bytes.new ≤ MOST_BYTES + 1 }
     ensures no_end { result ≢ Err InputEnd.TooLong }
     ensures fault { result ≡ Err InputEnd.Fault → Rose (S.faults input.old) (S.faults input.new) }
+    ensures no_fault { result ≢ Err InputEnd.Fault → S.faults input.new ≡ S.faults input.old }
     ensures takes_nothing { result ≡ Err InputEnd.Fault → S.taken input.new ≡ S.taken input.old }
     ensures never_falls { S.faults input.old ≤ S.faults input.new }
 {

@@ -37,9 +37,7 @@ fn main(rt: HostRuntime) -> ExitCode {
         }
         Err(status) => status,
     };
-    if status != Status::Done {
-        let _ = eprintln!(rt; "{status}");
-    }
+    let _ = status.tell(&mut rt.stderr());
     ExitCode::from(status.exit())
 }
 

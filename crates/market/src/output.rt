@@ -11,6 +11,7 @@ pub fn write_output<K: Sink>(output: &mut K, bytes: &[u8]) -> Result<(), Failed>
     ensures ok { OnOk result (Appends (K.written output.old) (K.written output.new) bytes.now) }
     ensures part { OnErr result (AppendsPart (K.written output.old) (K.written output.new) bytes.now) }
     ensures failed { OnErr result (Rose (K.faults output.old) (K.faults output.new)) }
+    ensures no_fault { OnOk result (K.faults output.new ≡ K.faults output.old) }
     ensures never_falls { K.faults output.old ≤ K.faults output.new }
 {
     let mut at = 0;

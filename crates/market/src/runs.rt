@@ -3,7 +3,7 @@
 ghost use Rattle.std.specs.Prelude.{◌≡◌, ◌≢◌, ◌≤◌, ◌<◌, ◌↔◌, ◌⊎◌, ℕ, List, [], Option, Some, None, Ok, Err, IsTrue, IsSome, IfOk, MatchResult, map, length, string_bytes};
 ghost use Rattle.market_edges.specs.Counts.{raised_by, Rose};
 ghost use Rattle.market_events.specs.declared.requests.Request.{Request};
-ghost use Rattle.market_events.specs.declared.workload.WorkRule.{WorkRule};
+ghost use Rattle.market_texts.specs.declared.workload.WorkRule.{WorkRule};
 ghost use Rattle.market.specs.declared.statuses.InputRule.{InputRule};
 ghost use Rattle.market.specs.Output.{Appends, AppendsPart, run_output};
 ghost use Rattle.market.specs.Runs.{TellsBad};
@@ -40,8 +40,9 @@ pub fn market<R: Threads + Sync, S: Source, K: Sink, D: Shelf>(
     ensures usage { (result ≡ Status.Usage) ↔ (command_of (map (λ word. string_bytes word) words.now) ≡ None) }
     ensures usage_reads_nothing { result ≡ Status.Usage → input.new ≡ input.old }
 
-    // ReadFault: only where the source's count of faults rose.
+    // ReadFault: exactly where the source's count of faults rose.
     ensures read_fault { result ≡ Status.ReadFault → Rose (S.faults input.old) (S.faults input.new) }
+    ensures no_read_fault { result ≢ Status.ReadFault → S.faults input.new ≡ S.faults input.old }
 
     // InputTooLong: exactly where one byte too many was taken, and where the source tells, where it has too many.
     ensures too_long { result ≡ Status.InputTooLong → S.taken input.new ≡ raised_by (S.taken input.old) 67_108_865 }
@@ -57,8 +58,9 @@ pub fn market<R: Threads + Sync, S: Source, K: Sink, D: Shelf>(
     ensures bad_input { (n : ℕ) (rule : InputRule) → result ≡ Status.BadInput n rule → (bytes : List ℕ) → S.left input.old ≡ Some bytes
         → (broken : WorkRule) × (workload_of bytes ≡ Err (n, broken)) × (rule ≡ rule_of broken) }
 
-    // WriteFault: only where the sink's count of faults rose, and the sink grew by a proper prefix of the output.
+    // WriteFault: exactly where the sink's count of faults rose. The sink grew by a proper prefix of the output.
     ensures write_fault { result ≡ Status.WriteFault → Rose (K.faults output.old) (K.faults output.new) }
+    ensures no_write_fault { result ≢ Status.WriteFault → K.faults output.new ≡ K.faults output.old }
     ensures write_fault_part { result ≡ Status.WriteFault → (bytes : List ℕ) → S.left input.old ≡ Some bytes
         → (requests : List Request) × (workload_of bytes ≡ Ok requests)
         × AppendsPart (K.written output.old) (K.written output.new) (run_output requests) }
@@ -89,6 +91,7 @@ fn run<S: Source, K: Sink>(alloc: Global, input: &mut S, output: &mut K) -> Stat
         → (requests : List Request) × (workload_of bytes ≡ Ok requests)
         × Appends (K.written output.old) (K.written output.new) (run_output requests) }
     ensures read_fault { result ≡ Status.ReadFault → Rose (S.faults input.old) (S.faults input.new) }
+    ensures no_read_fault { result ≢ Status.ReadFault → S.faults input.new ≡ S.faults input.old }
     ensures too_long { result ≡ Status.InputTooLong → S.taken input.new ≡ raised_by (S.taken input.old) 67_108_865 }
     ensures too_long_told { result ≡ Status.InputTooLong → (bytes : List ℕ) → S.left input.old ≡ Some bytes → 67_108_864 < length bytes }
     ensures not_too_long { result ≢ Status.InputTooLong → result ≢ Status.OutOfMemory
@@ -98,6 +101,7 @@ fn run<S: Source, K: Sink>(alloc: Global, input: &mut S, output: &mut K) -> Stat
     ensures bad_input { (n : ℕ) (rule : InputRule) → result ≡ Status.BadInput n rule → (bytes : List ℕ) → S.left input.old ≡ Some bytes
         → (broken : WorkRule) × (workload_of bytes ≡ Err (n, broken)) × (rule ≡ rule_of broken) }
     ensures write_fault { result ≡ Status.WriteFault → Rose (K.faults output.old) (K.faults output.new) }
+    ensures no_write_fault { result ≢ Status.WriteFault → K.faults output.new ≡ K.faults output.old }
     ensures write_fault_part { result ≡ Status.WriteFault → (bytes : List ℕ) → S.left input.old ≡ Some bytes
         → (requests : List Request) × (workload_of bytes ≡ Ok requests)
         × AppendsPart (K.written output.old) (K.written output.new) (run_output requests) }
@@ -120,6 +124,7 @@ fn answer<K: Sink>(alloc: Global, bytes: &[u8], output: &mut K) -> Status
     ensures bad_input { (n : ℕ) (rule : InputRule) → result ≡ Status.BadInput n rule
         → (broken : WorkRule) × (workload_of bytes.now ≡ Err (n, broken)) × (rule ≡ rule_of broken) }
     ensures write_fault { result ≡ Status.WriteFault → Rose (K.faults output.old) (K.faults output.new) }
+    ensures no_write_fault { result ≢ Status.WriteFault → K.faults output.new ≡ K.faults output.old }
     ensures write_fault_part { result ≡ Status.WriteFault → (requests : List Request) × (workload_of bytes.now ≡ Ok requests)
         × AppendsPart (K.written output.old) (K.written output.new) (run_output requests) }
     ensures unwritten { IsTrue (writes_nothing result) → output.new ≡ output.old }

@@ -1,22 +1,37 @@
 //! How a command ends.
 
-ghost use Rattle.std.specs.Prelude.{◌≡◌};
-ghost use Rattle.market.specs.Statuses.{exit_of, rule_of};
+ghost use Rattle.std.specs.Prelude.{◌≡◌, OnOk};
+ghost use Rattle.std.specs.Io.KnownBytes.{Appends};
+ghost use Rattle.market.specs.Statuses.{exit_of, rule_of, told_of};
 
-use market_events::WorkRule;
-use thiserror::Error;
+use market_texts::WorkRule;
+use std::error::Error;
+use std::io::Write;
+use std::{fmt, io};
 
 /// The rules that a bad record can break.
-#[derive(Clone, Copy, Debug, PartialEq, Eq, Error)]
+#[derive(Clone, Copy, Debug, PartialEq, Eq)]
 pub enum InputRule {
-    #[error("fields")]
     Fields,
-    #[error("number")]
     Number,
-    #[error("range")]
     Range,
-    #[error("kind")]
     Kind,
+}
+
+impl fmt::Display for InputRule {
+    ghost use Rattle.std.specs.Prelude.{Some};
+    ghost use Rattle.market.specs.Statuses.{rule_text};
+
+    ghost output = { λ rule. Some (rule_text rule) };
+
+    fn fmt<W: fmt::Write>(&self, f: &mut fmt::Formatter<W>) -> fmt::Result {
+        match self {
+            InputRule::Fields => f.write_str("fields"),
+            InputRule::Number => f.write_str("number"),
+            InputRule::Range => f.write_str("range"),
+            InputRule::Kind => f.write_str("kind"),
+        }
+    }
 }
 
 impl InputRule {
@@ -34,28 +49,42 @@ impl InputRule {
 }
 
 /// How a command ended. The text is what the program writes on standard error.
-#[derive(Debug, Drop, PartialEq, Error)]
+#[derive(Debug, Drop, PartialEq)]
 pub enum Status {
-    #[error("")]
     Done,
     /// The words are of no form.
-    #[error("usage")]
     Usage,
     /// The input has more than 67,108,864 bytes.
-    #[error("input too long")]
     InputTooLong,
     /// This record, counted from 1, is the first that breaks a rule, and this is the first that it breaks.
-    #[error("line {0}: {1}")]
     BadInput(u32, InputRule),
     /// The source of the input failed.
-    #[error("read fault")]
     ReadFault,
     /// The sink of the output failed.
-    #[error("write fault")]
     WriteFault,
-    #[error("out of memory")]
     OutOfMemory,
 }
+
+impl fmt::Display for Status {
+    ghost use Rattle.std.specs.Prelude.{Some};
+    ghost use Rattle.market.specs.Statuses.{status_text};
+
+    ghost output = { λ status. Some (status_text status) };
+
+    fn fmt<W: fmt::Write>(&self, f: &mut fmt::Formatter<W>) -> fmt::Result {
+        match self {
+            Status::Done => Ok(()),
+            Status::Usage => f.write_str("usage"),
+            Status::InputTooLong => f.write_str("input too long"),
+            Status::BadInput(n, rule) => write!(f, "line {n}: {rule}"),
+            Status::ReadFault => f.write_str("read fault"),
+            Status::WriteFault => f.write_str("write fault"),
+            Status::OutOfMemory => f.write_str("out of memory"),
+        }
+    }
+}
+
+impl Error for Status {}
 
 impl Status {
     /// The exit status of the program.
@@ -69,6 +98,16 @@ impl Status {
             Status::ReadFault => 4,
             Status::WriteFault => 5,
             Status::OutOfMemory => 9,
+        }
+    }
+
+    /// Writes the text and a line feed, and nothing for `Done`. It takes no memory.
+    pub fn tell<W: Write>(&self, to: &mut W) -> io::Result<()>
+        ensures { OnOk result (Appends (W.contents to.old) (W.contents to.new) (told_of self.now)) }
+    {
+        match self {
+            Status::Done => Ok(()),
+            _ => writeln!(to, "{self}"),
         }
     }
 }

@@ -2,7 +2,7 @@
 
 ghost use Rattle.std.specs.Prelude.{◌≡◌, ◌≤◌, Ok, IfOk, MatchResult, length, vec_len};
 ghost use Rattle.csv.specs.Records.{fields_of};
-ghost use Rattle.market_events.specs.Workload.{request_of};
+ghost use Rattle.market_texts.specs.Workload.{request_of};
 ghost use Rattle.market.specs.declared.workload.WorkFault.TheVariants.{OutOfMemory};
 ghost use Rattle.std.specs.List.{All};
 ghost use Rattle.market_events.specs.WellFormed.{IsRequest};
@@ -11,7 +11,8 @@ ghost use Rattle.market.specs.Workload.{workload_of, at_record, TellsFault};
 use crate::input::MOST_BYTES;
 use crate::records::{fields, next_record, open_records};
 use csv::ByteRecord;
-use market_events::{Request, WorkRule, read_fields};
+use market_events::Request;
+use market_texts::{WorkRule, read_fields};
 use std::alloc::{AllocError, AllocFailed, Global};
 use thiserror::Error;
 

@@ -4,6 +4,7 @@
 
 mod amounts;
 mod keys;
+pub mod laws;
 mod lists;
 mod numbers;
 #[cfg(test)]

@@ -1,10 +1,6 @@
 -- What a shelf in memory is.
 use Rattle.std.specs.Prelude.{ℕ, List, [], slice_index, slice_index_or}
 
--- how many nodes there are
-abbrev pub nodes : ℕ
-nodes = 24
-
 pub record ShelfState : Type 0 where
   -- the texts of each node's rows
   pub held : List (List (List ℕ))

@@ -11,6 +11,7 @@ pub record SinkState : Type 0 where
   -- the faults, a count that stands still at its end
   pub faults : ℕ
 
--- what is told of a sink over a writer: the faults, a count that stands still at its end
-pub record SinkFaults : Type 0 where
+-- what is told of a sink over a writer: the writer, and the faults, a count that stands still at its end
+pub record WriterState (W : Type 0) : Type 0 where
+  pub writer : W
   pub faults : ℕ

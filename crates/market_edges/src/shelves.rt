@@ -1,16 +1,17 @@
 //! Shelves of rows.
 
-ghost use Rattle.std.specs.Prelude.{◌≡◌, ◌≢◌, ℕ, ◌≤◌, ◌<◌, List, [], ◌++◌, length, map, All, replicate, slice_get, Option, Some, option_map, IfSome, IfOk, OnOk, OnErr, IsTrue, ◌↔◌};
+ghost use Rattle.std.specs.Prelude.{◌≡◌, ◌≢◌, ℕ, ◌≤◌, ◌<◌, List, [], ◌++◌, length, map, All, replicate, slice_get, Option, None, Some, option_map, IfSome, IfOk, OnOk, OnErr, IsTrue, ◌↔◌};
 ghost use Rattle.market_edges.specs.Counts.{count_end, raised_by, Rose, is_listed};
-ghost use Rattle.market_edges.specs.Shelves.{ContinueFrom, texts_of};
-ghost use Rattle.market_edges.specs.MemoryShelves.{ShelfState, nodes, texts_at, faults_at};
+ghost use Rattle.market_edges.specs.Shelves.{ContinueFrom, texts_of, nodes, most_rows, RoseSomewhere};
+ghost use Rattle.market_edges.specs.MemoryShelves.{ShelfState, texts_at, faults_at};
 
 use crate::faults::is_call_listed;
 use market_amounts::List;
 use market_events::Node;
 use std::alloc::{AllocError, Global};
+use std::error::Error;
+use std::fmt;
 use std::marker::Model;
-use thiserror::Error;
 
 const NODES: usize = 24;
 
@@ -22,14 +23,28 @@ pub struct Row {
 }
 
 /// Why a shelf did not do what it was asked.
-#[derive(Clone, Copy, Debug, PartialEq, Eq, Error)]
+#[derive(Clone, Copy, Debug, PartialEq, Eq)]
 pub enum ShelfError {
     /// The call failed, and the node's count of faults rose.
-    #[error("failed")]
     Failed,
-    #[error("out of memory")]
     OutOfMemory,
 }
+
+impl fmt::Display for ShelfError {
+    ghost use Rattle.std.specs.Prelude.{Some};
+    ghost use Rattle.market_edges.specs.Faults.{shelf_error_text};
+
+    ghost output = { λ error. Some (shelf_error_text error) };
+
+    fn fmt<W: fmt::Write>(&self, f: &mut fmt::Formatter<W>) -> fmt::Result {
+        match self {
+            ShelfError::Failed => f.write_str("failed"),
+            ShelfError::OutOfMemory => f.write_str("out of memory"),
+        }
+    }
+}
+
+impl Error for ShelfError {}
 
 impl From<AllocError> for ShelfError {
     ghost use Rattle.std.specs.Prelude.{◌≡◌};
@@ -43,7 +58,8 @@ impl From<AllocError> for ShelfError {
 }
 
 /// What rows of the nodes are kept on. `faults` counts a node's faults and stands still at 18,446,744,073,709,551,615.
-/// `held` is the texts of a node's rows, at places 0, 1, .. with none left out, where the shelf tells.
+/// `held` is the texts of a node's rows, at places 0, 1, .. with none left out, where the shelf tells. No row stands
+/// at place 4,294,967,295.
 pub trait Shelf {
     ghost faults: { Self → ℕ → ℕ };
 
@@ -53,11 +69,15 @@ pub trait Shelf {
     /// 4,294,967,295. After an error each node holds what it held, and the call may be made again.
     fn commit(&mut self, node: Node, rows: &[Row]) -> Result<(), ShelfError>
         requires continues { IfSome (held self.old node) (λ texts. ContinueFrom (length texts) rows.now) }
-        requires below_end { All (λ row. row.place < 4294967295) rows.now }
+        requires below_end { All (λ row. row.place < most_rows) rows.now }
         ensures ok { OnOk result (held self.new node ≡ option_map (λ texts. texts ++ texts_of rows.now) (held self.old node)) }
         ensures others { (other : ℕ) → other ≢ node → held self.new other ≡ held self.old other }
         ensures unchanged { (n : ℕ) → OnErr result (held self.new n ≡ held self.old n) }
+        ensures few { (n : ℕ) → IfSome (held self.new n) (λ texts. length texts ≤ most_rows) }
+        ensures calm { (n : ℕ) → OnOk result (faults self.new n ≡ faults self.old n) }
         ensures failed { result ≡ Err ShelfError.Failed → Rose (faults self.old node) (faults self.new node) }
+        ensures failed_somewhere { result ≡ Err ShelfError.Failed
+            → RoseSomewhere (faults self.old) (faults self.new) }
         ensures never_falls { (n : ℕ) → faults self.old n ≤ faults self.new n }
         ensures stands_still { (n : ℕ) → faults self.old n ≤ count_end → faults self.new n ≤ count_end }
         ensures other_faults { (other : ℕ) → other ≢ node → faults self.new other ≡ faults self.old other };
@@ -66,8 +86,13 @@ pub trait Shelf {
     fn load(&mut self, node: Node, place: u32) -> Result<Option<Row>, ShelfError>
         ensures text { IfOk result (λ row. IfSome (held self.old node) (λ texts. option_map (λ r. r.text) row ≡ slice_get texts place)) }
         ensures place { IfOk result (λ row. IfSome row (λ r. r.place ≡ place)) }
+        ensures no_row_at_end { place ≡ most_rows → IfOk result (λ row. row ≡ None) }
         ensures unchanged { (n : ℕ) → held self.new n ≡ held self.old n }
+        ensures few { (n : ℕ) → IfSome (held self.new n) (λ texts. length texts ≤ most_rows) }
+        ensures calm { (n : ℕ) → OnOk result (faults self.new n ≡ faults self.old n) }
         ensures failed { result ≡ Err ShelfError.Failed → Rose (faults self.old node) (faults self.new node) }
+        ensures failed_somewhere { result ≡ Err ShelfError.Failed
+            → RoseSomewhere (faults self.old) (faults self.new) }
         ensures never_falls { (n : ℕ) → faults self.old n ≤ faults self.new n }
         ensures stands_still { (n : ℕ) → faults self.old n ≤ count_end → faults self.new n ≤ count_end }
         ensures other_faults { (other : ℕ) → other ≢ node → faults self.new other ≡ faults self.old other };
@@ -84,8 +109,9 @@ pub struct MemoryShelf {
 }
 
 impl Model for MemoryShelf {
-    ghost use Rattle.std.specs.Prelude.{ℕ, List, map};
+    ghost use Rattle.std.specs.Prelude.{ℕ, ◌≤◌, List, All, length, map};
     ghost use Rattle.market_edges.specs.MemoryShelves.{ShelfState};
+    ghost use Rattle.market_edges.specs.Shelves.{most_rows};
 
     ghost Value = { ShelfState };
 
@@ -95,6 +121,8 @@ impl Model for MemoryShelf {
       calls = s.calls;
       faults = s.faults;
     } };
+
+    ghost invariant = { λ s. All (λ v. length v.items ≤ most_rows) s.rows };
 }
 
 impl MemoryShelf {
@@ -120,7 +148,7 @@ impl Shelf for MemoryShelf {
     /// Answers `Failed` exactly at the commits that are listed, and else `OutOfMemory` where memory is missing.
     fn commit(&mut self, node: Node, rows: &[Row]) -> Result<(), ShelfError>
         requires continues { ContinueFrom (length (texts_at self.old node)) rows.now }
-        requires below_end { All (λ row. row.place < 4294967295) rows.now }
+        requires below_end { All (λ row. row.place < most_rows) rows.now }
         ensures fails { (result ≡ Err ShelfError.Failed) ↔ IsTrue (is_listed self.old.failing (raised_by self.old.calls 1)) }
         ensures called { self.new.calls ≡ raised_by self.old.calls 1 }
         ensures same_list { self.new.failing ≡ self.old.failing }
@@ -128,6 +156,9 @@ impl Shelf for MemoryShelf {
         ensures others { (other : ℕ) → other ≢ node → texts_at self.new other ≡ texts_at self.old other }
         ensures unchanged { OnErr result (self.new.held ≡ self.old.held) }
         ensures failed { result ≡ Err ShelfError.Failed → faults_at self.new node ≡ raised_by (faults_at self.old node) 1 }
+        ensures failed_somewhere { result ≡ Err ShelfError.Failed
+            → RoseSomewhere (faults_at self.old) (faults_at self.new) }
+        ensures few { (n : ℕ) → length (texts_at self.new n) ≤ most_rows }
         ensures no_fault { result ≢ Err ShelfError.Failed → self.new.faults ≡ self.old.faults }
         ensures never_falls { (n : ℕ) → faults_at self.old n ≤ faults_at self.new n }
         ensures stands_still { (n : ℕ) → faults_at self.old n ≤ count_end → faults_at self.new n ≤ count_end }
@@ -148,6 +179,8 @@ impl Shelf for MemoryShelf {
     fn load(&mut self, node: Node, place: u32) -> Result<Option<Row>, ShelfError>
         ensures text { IfOk result (λ row. option_map (λ r. r.text) row ≡ slice_get (texts_at self.old node) place) }
         ensures place { IfOk result (λ row. IfSome row (λ r. r.place ≡ place)) }
+        ensures no_row_at_end { place ≡ most_rows → IfOk result (λ row. row ≡ None) }
+        ensures few { (n : ℕ) → length (texts_at self.old n) ≤ most_rows }
         ensures no_failure { result ≢ Err ShelfError.Failed }
         ensures unchanged { self.new ≡ self.old }
     {

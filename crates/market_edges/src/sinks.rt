@@ -1,11 +1,13 @@
 //! Sinks of bytes.
 
-ghost use Rattle.std.specs.Prelude.{◌≡◌, ℕ, ◌≤◌, ◌<◌, List, [], ◌++◌, length, take, Option, Some, None, option_map, IfOk, OnErr, is_err, IsErr, IsTrue};
+ghost use Rattle.std.specs.Prelude.{◌≡◌, ℕ, ◌≤◌, ◌<◌, List, [], ◌++◌, length, take, Option, Some, None, option_map, Ok, Err, IfOk, OnOk, OnErr, IsErr, IsTrue};
+ghost use Rattle.std.specs.Io.KnownBytes.{WriteAppends};
 ghost use Rattle.market_edges.specs.Counts.{count_end, raised_by, Rose, is_listed};
-ghost use Rattle.market_edges.specs.Sinks.{SinkState, SinkFaults};
+ghost use Rattle.market_edges.specs.Sinks.{SinkState};
 
 use crate::faults::{Failed, is_call_listed};
 use std::alloc::Global;
+use std::io;
 use std::io::Write;
 use std::marker::Model;
 
@@ -18,10 +20,13 @@ pub trait Sink {
 
     /// Writes bytes from the front of `piece` and answers how many. It answers 0 for a piece that is not empty only
     /// where the faults rose. After `Failed` the sink is as before but for its faults, and the call may be made again.
+    /// No other call changes the faults.
     fn write(&mut self, piece: &[u8]) -> Result<usize, Failed>
         ensures within { IfOk result (λ n. n ≤ length piece.now) }
         ensures appends { IfOk result (λ n. written self.new ≡ option_map (λ bytes. bytes ++ take n piece.now) (written self.old)) }
         ensures stuck { IfOk result (λ n. n ≡ 0 → 0 < length piece.now → Rose (faults self.old) (faults self.new)) }
+        ensures moved { IfOk result (λ n. 0 < n → faults self.new ≡ faults self.old) }
+        ensures no_bytes { length piece.now ≡ 0 → OnOk result (faults self.new ≡ faults self.old) }
         ensures failed { OnErr result (Rose (faults self.old) (faults self.new)) }
         ensures unchanged { OnErr result (written self.new ≡ written self.old) }
         ensures never_falls { faults self.old ≤ faults self.new }
@@ -102,8 +107,9 @@ impl Sink for MemorySink {
     }
 }
 
-/// A sink over a writer of std, which is to buffer nothing: the sink never flushes. Each error of the writer is a fault,
-/// and so is a write of nothing where there was something. It tells nothing of its bytes, and contracts see its faults.
+/// A sink over a writer of std, which is to buffer nothing: the sink never flushes. One write is one call of the
+/// writer. Each error of the writer is a fault, and so is a write of nothing where there was something. It tells
+/// nothing of its bytes; contracts see its writer and its faults.
 #[derive(Drop)]
 pub struct StdSink<W> {
     writer: W,
@@ -111,31 +117,34 @@ pub struct StdSink<W> {
 }
 
 impl<W> Model for StdSink<W> {
-    ghost use Rattle.market_edges.specs.Sinks.{SinkFaults};
+    ghost use Rattle.market_edges.specs.Sinks.{WriterState};
 
-    ghost Value = { SinkFaults };
+    ghost Value = { WriterState W };
 
-    ghost view = { λ s. record { faults = s.faults } };
+    ghost view = { λ s. record { writer = s.writer; faults = s.faults } };
 }
 
 impl<W> StdSink<W> {
     /// A sink of bytes for the writer.
     pub fn new(writer: W) -> StdSink<W>
-        ensures { result ≡ record { faults = 0 } }
+        ensures { result ≡ record { writer = writer; faults = 0 } }
     {
         StdSink { writer, faults: 0 }
     }
-}
 
-impl<W: Write> Sink for StdSink<W> {
-    ghost faults = { λ s. s.faults };
-
-    ghost written = { λ _. None };
-
-    fn write(&mut self, piece: &[u8]) -> Result<usize, Failed> {
-        match self.writer.write(piece) {
+    // Counts what one call of the writer gave for so many bytes, and hands it on.
+    fn count(&mut self, given: io::Result<usize>, asked: usize) -> Result<usize, Failed>
+        ensures ok { IfOk given (λ n. result ≡ Ok n) }
+        ensures err { OnErr given (IsErr result) }
+        ensures moved { IfOk given (λ n. 0 < n → self.new ≡ self.old) }
+        ensures no_bytes { asked ≡ 0 → OnOk given (self.new ≡ self.old) }
+        ensures stuck { IfOk given (λ n. n ≡ 0 → 0 < asked
+            → self.new ≡ record self.old { faults = raised_by self.old.faults 1 }) }
+        ensures failed { OnErr given (self.new ≡ record self.old { faults = raised_by self.old.faults 1 }) }
+    {
+        match given {
             Ok(n) => {
-                if n == 0 && !piece.is_empty() {
+                if n == 0 && asked > 0 {
                     self.faults = self.faults.saturating_add(1);
                 }
                 Ok(n)
@@ -145,5 +154,29 @@ impl<W: Write> Sink for StdSink<W> {
                 Err(Failed)
             }
         }
+    }
+}
+
+impl<W: Write> Sink for StdSink<W> {
+    ghost faults = { λ s. s.faults };
+
+    ghost written = { λ _. None };
+
+    /// Hands on what one call of the writer gives, and counts one fault for an error of it, and for 0 where there
+    /// was something to write.
+    fn write(&mut self, piece: &[u8]) -> Result<usize, Failed>
+        ensures within { IfOk result (λ n. n ≤ length piece.now) }
+        ensures handed_on { WriteAppends (W.contents self.old.writer) (W.contents self.new.writer)
+            result piece.now }
+        ensures moved { IfOk result (λ n. 0 < n → self.new.faults ≡ self.old.faults) }
+        ensures no_bytes { length piece.now ≡ 0 → OnOk result (self.new.faults ≡ self.old.faults) }
+        ensures stuck { IfOk result (λ n. n ≡ 0 → 0 < length piece.now
+            → self.new.faults ≡ raised_by self.old.faults 1) }
+        ensures failed { OnErr result (self.new.faults ≡ raised_by self.old.faults 1) }
+        ensures never_falls { self.old.faults ≤ self.new.faults }
+        ensures stands_still { self.old.faults ≤ count_end → self.new.faults ≤ count_end }
+    {
+        let given = self.writer.write(piece);
+        self.count(given, piece.len())
     }
 }

@@ -1,10 +1,12 @@
 //! Sources of bytes.
 
-ghost use Rattle.std.specs.Prelude.{◌≡◌, ℕ, ◌≤◌, ◌<◌, List, [], length, take, drop, min, Option, Some, None, option_map, IfSome, IfOk, OnErr, is_err};
+ghost use Rattle.std.specs.Prelude.{◌≡◌, ℕ, ◌≤◌, ◌<◌, List, [], length, take, drop, min, Option, Some, None, option_map, IfSome, IfOk, OnOk, OnErr, IsErr, is_err};
+ghost use Rattle.std.specs.Io.KnownBytes.{ReadConsumes};
 ghost use Rattle.market_edges.specs.Counts.{count_end, raised_by, Rose, is_listed};
 ghost use Rattle.market_edges.specs.Sources.{SourceState};
 
 use crate::faults::{Failed, is_call_listed};
+use std::io;
 use std::io::Read;
 use std::marker::Model;
 
@@ -19,7 +21,7 @@ pub trait Source {
 
     /// Takes the next bytes into the front of `room` and answers how many; the rest of `room` may change too. 0 is the
     /// end, but for an empty `room`. After `Failed` the source is as before but for its faults, and the call may be
-    /// made again.
+    /// made again. No other call changes the faults.
     fn read(&mut self, room: &mut [u8]) -> Result<usize, Failed>
         ensures within { IfOk result (λ n. n ≤ length room.old) }
         ensures taken { IfOk result (λ n. taken self.new ≡ raised_by (taken self.old) n) }
@@ -27,6 +29,7 @@ pub trait Source {
         ensures bytes { IfOk result (λ n. IfSome (left self.old) (λ bytes. take n room.new ≡ take n bytes)) }
         ensures rest { IfOk result (λ n. left self.new ≡ option_map (drop n) (left self.old)) }
         ensures end { IfOk result (λ n. n ≡ 0 → 0 < length room.old → IfSome (left self.old) (λ bytes. bytes ≡ [])) }
+        ensures calm { OnOk result (faults self.new ≡ faults self.old) }
         ensures failed { OnErr result (Rose (faults self.old) (faults self.new)) }
         ensures takes_nothing { OnErr result (taken self.new ≡ taken self.old) }
         ensures keeps_left { OnErr result (left self.new ≡ left self.old) }
@@ -118,8 +121,8 @@ impl Source for MemorySource {
     }
 }
 
-/// A source over a reader of std. Each error of the reader is a fault. It tells nothing of its bytes, and contracts see
-/// its counts.
+/// A source over a reader of std. One read is one call of the reader, and each error of it is a fault. It tells
+/// nothing of its bytes; contracts see its reader and its counts.
 #[derive(Drop)]
 pub struct StdSource<R> {
     reader: R,
@@ -128,22 +131,41 @@ pub struct StdSource<R> {
 }
 
 impl<R> Model for StdSource<R> {
-    ghost use Rattle.market_edges.specs.Sources.{SourceCounts};
+    ghost use Rattle.market_edges.specs.Sources.{ReaderState};
 
-    ghost Value = { SourceCounts };
+    ghost Value = { ReaderState R };
 
-    ghost view = { λ s. record { taken = s.taken; faults = s.faults } };
+    ghost view = { λ s. record { reader = s.reader; taken = s.taken; faults = s.faults } };
 }
 
 impl<R> StdSource<R> {
     /// A source of the bytes that the reader gives.
     pub fn new(reader: R) -> StdSource<R>
-        ensures { result ≡ record { taken = 0; faults = 0 } }
+        ensures { result ≡ record { reader = reader; taken = 0; faults = 0 } }
     {
         StdSource {
             reader,
             taken: 0,
             faults: 0,
+        }
+    }
+
+    // Counts what one call of the reader gave, and hands it on.
+    fn count(&mut self, given: io::Result<usize>) -> Result<usize, Failed>
+        ensures ok { IfOk given (λ n. result ≡ Ok n) }
+        ensures err { OnErr given (IsErr result) }
+        ensures taken { IfOk given (λ n. self.new ≡ record self.old { taken = raised_by self.old.taken n }) }
+        ensures failed { OnErr given (self.new ≡ record self.old { faults = raised_by self.old.faults 1 }) }
+    {
+        match given {
+            Ok(n) => {
+                self.taken = self.taken.saturating_add(n as u64);
+                Ok(n)
+            }
+            Err(_) => {
+                self.faults = self.faults.saturating_add(1);
+                Err(Failed)
+            }
         }
     }
 }
@@ -155,16 +177,19 @@ impl<R: Read> Source for StdSource<R> {
 
     ghost left = { λ _. None };
 
-    fn read(&mut self, room: &mut [u8]) -> Result<usize, Failed> {
-        match self.reader.read(room) {
-            Ok(n) => {
-                self.taken = self.taken.saturating_add(n as u64);
-                Ok(n)
-            }
-            Err(_) => {
-                self.faults = self.faults.saturating_add(1);
-                Err(Failed)
-            }
-        }
+    /// Hands on what one call of the reader gives, and counts one fault for an error of it.
+    fn read(&mut self, room: &mut [u8]) -> Result<usize, Failed>
+        ensures within { IfOk result (λ n. n ≤ length room.old) }
+        ensures handed_on { ReadConsumes (R.remaining self.old.reader) (R.remaining self.new.reader)
+            result room.new }
+        ensures taken { IfOk result (λ n. self.new.taken ≡ raised_by self.old.taken n) }
+        ensures takes_nothing { OnErr result (self.new.taken ≡ self.old.taken) }
+        ensures calm { OnOk result (self.new.faults ≡ self.old.faults) }
+        ensures failed { OnErr result (self.new.faults ≡ raised_by self.old.faults 1) }
+        ensures never_falls { self.old.faults ≤ self.new.faults }
+        ensures stands_still { self.old.faults ≤ count_end → self.new.faults ≤ count_end }
+    {
+        let given = self.reader.read(room);
+        self.count(given)
     }
 }

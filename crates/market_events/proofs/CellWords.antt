@@ -4,15 +4,15 @@ use Rattle.std.specs.Fmt.{decimal}
 use Rattle.std.specs.List.{AllByRecursion, join_with_byte}
 use Rattle.std.specs.Result.{result_ok}
 use Rattle.market_amounts.specs.declared.keys.ProductKey.{ProductKey}
-use Rattle.market_events.specs.declared.texts.faults.WordFault.{WordFault}
+use Rattle.market_words.specs.declared.faults.WordFault.{WordFault}
 use Rattle.market_events.specs.CellNames.{basket_of_pieces, basket_of}
 use Rattle.market_events.specs.Cells.{basket_key}
-use Rattle.market_events.specs.Reading.{pieces, number_id}
-use Rattle.market_events.specs.Results.{◌>>=◌}
+use Rattle.market_words.specs.Words.{pieces, number_id}
+use Rattle.market_words.specs.Results.{◌>>=◌}
 use Rattle.market_events.specs.WellFormed.{IsId, IsKey}
-use Rattle.market_events.proofs.WordCuts.{Lacks, pieces_joined, joined_pieces}
-use Rattle.market_events.proofs.WordNumbers.{decimal_lacks, number_id_word}
-use Rattle.market_events.proofs.WordReads.{ReadsWord, then_apart}
+use Rattle.market_words.proofs.WordCuts.{Lacks, pieces_joined, joined_pieces}
+use Rattle.market_words.proofs.WordNumbers.{decimal_lacks, number_id_word}
+use Rattle.market_words.proofs.WordReads.{ReadsWord, then_apart}
 
 -- a text is read as a key just where it is the text of that key, which is one of these
 pub record ReadsKey {K : Type 0} (read : List ℕ → Result K WordFault) (text : K → List ℕ) (ok : K → Type 0) : Type 0 where

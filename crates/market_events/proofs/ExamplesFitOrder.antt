@@ -52,6 +52,12 @@ order_shipment_fits = record {
   one_item_of_no_line = refl;
   delivery_of_the_rest = refl;
   delivery_of_more_than_the_rest = refl;
+  item_of_other_customer = refl;
+  two_customers_of_one_line = refl;
+  own_item_after_that_of_other_customer = refl;
+  item_of_other_customer_after_the_own = refl;
+  item_of_other_customer_twice = refl;
+  item_of_other_customer_of_no_line = refl;
   delivery_for_customers = refl;
 }
 

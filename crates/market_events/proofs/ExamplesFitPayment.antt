@@ -60,6 +60,9 @@ customer_fits = record {
   delivery_twice = refl;
   one_item_delivered_twice = refl;
   item_twice = refl;
+  item_of_other_customer = refl;
+  two_customers_of_one_line = refl;
+  item_of_other_customer_twice = refl;
   delivery_for_sellers = refl;
   shipment_is_not_for_customers = refl;
 }

@@ -38,6 +38,11 @@ seller_fits = record {
   items_of_two_checkouts = refl;
   one_item_delivered_twice = refl;
   delivery_of_the_rest = refl;
+  item_of_other_customer = refl;
+  two_customers_of_one_line = refl;
+  item_of_other_customer_after_the_own = refl;
+  item_of_other_customer_twice = refl;
+  item_of_other_customer_of_no_line = refl;
   new_request_is_answered = refl;
   request_again_is_not = refl;
 }

@@ -22,4 +22,8 @@ order_examples = record {
   order_cancelled = refl;
   order_of_a_later_checkout = refl;
   order_half_delivered_is_shipped = refl;
+  order_is_not_delivered_to_another_customer = refl;
+  order_is_delivered_to_its_own_customer = refl;
+  order_with_both_items_at_once_is_delivered = refl;
+  order_of_two_lines_with_one_of_another_customer = refl;
 }

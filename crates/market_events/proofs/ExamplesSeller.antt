@@ -12,6 +12,7 @@ seller_examples = record {
   dashboard_paid = refl;
   dashboard_shipped = refl;
   dashboard_delivered = refl;
+  dashboard_with_a_line_delivered_twice = refl;
   dashboard_cancelled = refl;
   dashboard_of_two_checkouts = refl;
   dashboard_of_seller_6 = refl;

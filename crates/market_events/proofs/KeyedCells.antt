@@ -20,8 +20,8 @@ use Rattle.market_events.proofs.CellLaws.{value_at, same_cells, value_of-listed,
 use Rattle.market_events.proofs.CellWords.{key_of_word, one_key, basket_word, IsBasketKey}
 use Rattle.market_events.proofs.ListLaws.{and_from}
 use Rattle.market_events.proofs.SameLaws.{same_key-true, same_key-self, same_id-true, same_id-self}
-use Rattle.market_events.proofs.WordForms.{id_word, key_word}
-use Rattle.market_events.proofs.WordNumbers.{number_id_word}
+use Rattle.market_words.proofs.WordNames.{id_word, key_word}
+use Rattle.market_words.proofs.WordNumbers.{number_id_word}
 
 -- the keys that are small have names of their own, and a test tells keys apart
 pub record IsNaming {K : Type 0} (same : K → K → Bool) (name : K → CellName) (IsSmall : K → Type 0) : Type 0 where

@@ -69,17 +69,17 @@ sum-found f id (q ∷ rs) r once found = sum_by-cons (λ (r : Reservation). if i
         rw (is, sum-none f id rs (any-none (is_of id) rs few)) (omega arith ∙ ap f (one (rw is at found)))
     either false is rest = rw is (omega (arith, rest (omega (arith, rw is at counted)) (rw is at found)))
 
--- the lines of the checkout, where it does not stand
-pub lines-none : (id : RequestId) (rs : List Reservation) → list_any (is_of id) rs ≡ false → flat_map (λ (r : Reservation). if is_of id r then r.lines else []) rs ≡ []
-lines-none id [] none = refl
-lines-none id (r ∷ rs) none =
+-- what is listed of the checkout, where it does not stand
+pub listed-none : (f : Reservation → List PricedLine) (id : RequestId) (rs : List Reservation) → list_any (is_of id) rs ≡ false → flat_map (λ (r : Reservation). if is_of id r then f r else []) rs ≡ []
+listed-none f id [] none = refl
+listed-none f id (r ∷ rs) none =
     let both = or_parts (is_of id r) (list_any (is_of id) rs) none in
-    rw both.0 (lines-none id rs both.1)
+    rw both.0 (listed-none f id rs both.1)
 
--- the lines of the checkout, where it stands once, are those of the one that is found
-pub lines-found : (id : RequestId) (rs : List Reservation) (r : Reservation) → IsOnce id rs → find (is_of id) rs ≡ Some r → flat_map (λ (r : Reservation). if is_of id r then r.lines else []) rs ≡ r.lines
-lines-found id [] r once found = cc
-lines-found id (q ∷ rs) r once found = either (is_of id q) refl (λ few more. lines-found id rs r few more)
+-- what is listed of the checkout, where it stands once, is what the one that is found has
+pub listed-found : (f : Reservation → List PricedLine) (id : RequestId) (rs : List Reservation) (r : Reservation) → IsOnce id rs → find (is_of id) rs ≡ Some r → flat_map (λ (r : Reservation). if is_of id r then f r else []) rs ≡ f r
+listed-found f id [] r once found = cc
+listed-found f id (q ∷ rs) r once found = either (is_of id q) refl (λ few more. listed-found f id rs r few more)
   where
     counted : cond (is_of id q) 1 0 + count_by (is_of id) rs ≤ 1
     counted = subst (λ n. n ≤ 1) (sum_by-cons (λ (r : Reservation). cond (is_of id r) 1 0) q rs) once
@@ -87,12 +87,20 @@ lines-found id (q ∷ rs) r once found = either (is_of id q) refl (λ few more. 
     one : Some q ≡ Some r → q ≡ r
     one e = cc
 
-    either : (b : Bool) → is_of id q ≡ b → (IsOnce id rs → find (is_of id) rs ≡ Some r → flat_map (λ (r : Reservation). if is_of id r then r.lines else []) rs ≡ r.lines)
-        → (if is_of id q then q.lines else []) ++ flat_map (λ (r : Reservation). if is_of id r then r.lines else []) rs ≡ r.lines
+    either : (b : Bool) → is_of id q ≡ b → (IsOnce id rs → find (is_of id) rs ≡ Some r → flat_map (λ (r : Reservation). if is_of id r then f r else []) rs ≡ f r)
+        → (if is_of id q then f q else []) ++ flat_map (λ (r : Reservation). if is_of id r then f r else []) rs ≡ f r
     either true is rest =
         let few : count_by (is_of id) rs ≤ 0 = omega (arith, rw is at counted) in
-        rw (is, lines-none id rs (any-none (is_of id) rs few)) (append-nil q.lines ∙ ap (λ (r : Reservation). r.lines) (one (rw is at found)))
+        rw (is, listed-none f id rs (any-none (is_of id) rs few)) (append-nil (f q) ∙ ap f (one (rw is at found)))
     either false is rest = rw is (rest (omega (arith, rw is at counted)) (rw is at found))
+
+-- the lines of the checkout, where it does not stand
+pub lines-none : (id : RequestId) (rs : List Reservation) → list_any (is_of id) rs ≡ false → flat_map (λ (r : Reservation). if is_of id r then r.lines else []) rs ≡ []
+lines-none id rs none = listed-none (λ (r : Reservation). r.lines) id rs none
+
+-- the lines of the checkout, where it stands once, are those of the one that is found
+pub lines-found : (id : RequestId) (rs : List Reservation) (r : Reservation) → IsOnce id rs → find (is_of id) rs ≡ Some r → flat_map (λ (r : Reservation). if is_of id r then r.lines else []) rs ≡ r.lines
+lines-found id rs r once found = listed-found (λ (r : Reservation). r.lines) id rs r once found
 
 -- a checkout of this customer, and one with these lines, has the id
 pub for-of : (id : RequestId) (customer : ℕ) (r : Reservation) → is_for id customer r ≡ true → is_of id r ≡ true

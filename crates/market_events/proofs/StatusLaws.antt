@@ -72,7 +72,7 @@ shipped_by false failed done false paid unpaid apart first delivered = refl
 
 -- where a checkout is not shipped, all its lines are open
 pub open_lines-unshipped : (steps : List Step) (id : RequestId) → OrderRun steps → is_taken ships steps id ≡ false → open_lines steps id ≡ lines_of (checkouts_taken steps) id
-open_lines-unshipped steps id run unshipped = open_in-all (items_taken steps) id (none (list_any (is_item_for id) (items_taken steps)) refl) (lines_of (checkouts_taken steps) id)
+open_lines-unshipped steps id run unshipped = open_in-all (items_taken steps) id (none (list_any (is_item_for id) (items_taken steps)) refl) (checkouts_taken steps)
   where
     none : (b : Bool) → list_any (is_item_for id) (items_taken steps) ≡ b → list_any (is_item_for id) (items_taken steps) ≡ false
     none true any = cc ((run.at id).shipped_first any)

@@ -4,11 +4,11 @@ use Rattle.std.specs.Fmt.{decimal}
 use Rattle.market_amounts.specs.declared.keys.ProductKey.{ProductKey}
 use Rattle.market_amounts.specs.declared.keys.RequestId.{RequestId}
 use Rattle.market_events.specs.declared.cells.CellName.{CellName}
-use Rattle.market_events.specs.declared.texts.faults.WordFault.{WordFault}
-use Rattle.market_events.specs.declared.texts.faults.WordFault.TheVariants.{Field}
+use Rattle.market_words.specs.declared.faults.WordFault.{WordFault}
+use Rattle.market_words.specs.declared.faults.WordFault.TheVariants.{Field}
 use Rattle.market_events.specs.Cells.{basket_key}
-use Rattle.market_events.specs.Reading.{pieces, number_id}
-use Rattle.market_events.specs.Results.{◌>>=◌}
+use Rattle.market_words.specs.Words.{pieces, number_id}
+use Rattle.market_words.specs.Results.{◌>>=◌}
 use Rattle.market_events.specs.Texts.{id_text, key_text}
 
 abbrev pub name_in : List ℕ → List ℕ → CellName

@@ -1,6 +1,11 @@
 -- Counts of events, one for each service link.
-use Rattle.std.specs.Prelude.{◌≡◌, ℕ, ◌<◌, List, slice_index, slice_set, max}
+use Rattle.std.specs.Prelude.{◌≡◌, ℕ, ◌^◌, ◌<◌, List, length, slice_index, slice_set, max}
 use Rattle.market_events.specs.declared.links.TheConstants.{SERVICE_LINKS}
+
+-- there is a count for each service link, below 2^32
+pub record AreCounts (counts : List ℕ) : Type 0 where
+  pub each : length counts ≡ SERVICE_LINKS
+  pub high : (k : ℕ) → k < SERVICE_LINKS → slice_index counts k < 2 ^ 32
 
 -- the counts with one of them raised to at least this number
 abbrev pub with_raised : List ℕ → ℕ → ℕ → List ℕ

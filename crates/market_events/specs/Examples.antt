@@ -31,6 +31,10 @@ a_line key quantity price freight voucher =
 abbrev pub an_item : RequestId → ProductKey → Item
 an_item checkout key = record { checkout = checkout; customer = 7; key = key }
 
+-- the same, but that it names customer 8
+abbrev pub strange_item : RequestId → ProductKey → Item
+strange_item checkout key = record { checkout = checkout; customer = 8; key = key }
+
 -- the request of caller 7 with this number, on the link from lane 7 to this service
 abbrev pub request : ℕ → ℕ → Ask → Sending
 request service number ask = (Asked 7 service, body.Asked (record { id = an_id 7 number; ask = ask }))

@@ -5,7 +5,7 @@ use Rattle.market_events.specs.declared.bodies.PayRule.TheVariants as pay
 use Rattle.market_events.specs.declared.links.Link.TheVariants.{Service}
 use Rattle.market_events.specs.declared.replies.Reply.TheVariants as reply
 use Rattle.market_events.specs.declared.requests.Ask.TheVariants as ask
-use Rattle.market_events.specs.Examples.{an_id, an_item, request, answer, quiet, mug, cup, basket, mug_lines, mug_paid}
+use Rattle.market_events.specs.Examples.{an_id, an_item, strange_item, request, answer, quiet, mug, cup, basket, mug_lines, mug_paid}
 use Rattle.market_events.specs.Services.{Role, answers}
 use Rattle.market_events.specs.Steps.{Step, Sending}
 
@@ -26,6 +26,10 @@ base_paid = quiet (Service 11, mug_paid) ∷ []
 abbrev pub base_delivered : List Step
 base_delivered = base_paid ++ quiet (Service 15, body.Delivered (an_item basket mug ∷ [])) ∷ []
 
+-- and the same line once more, with the name of customer 8
+abbrev pub two_delivered : List Step
+two_delivered = base_delivered ++ quiet (Service 15, body.Delivered (strange_item basket mug ∷ [])) ∷ []
+
 -- then checkout 6 of the customer fails, 7 is paid, and 8 of customer 9 is paid
 abbrev pub two_paid : List Step
 two_paid =
@@ -44,6 +48,8 @@ pub record CustomerExamples : Type 0 where
   pub customer_after_payment : customer_makes base_paid (ask_of 7) ≡ counts 1 0 0
   pub customer_after_delivery : customer_makes base_delivered (ask_of 7) ≡ counts 1 0 1
   pub other_customer_has_his_own : customer_makes base_delivered (ask_of 9) ≡ counts 0 0 0
+  pub customer_with_a_line_of_another : customer_makes two_delivered (ask_of 7) ≡ counts 1 0 1
+  pub customer_with_a_line_of_no_checkout : customer_makes two_delivered (ask_of 8) ≡ counts 0 0 1
   pub customer_after_failure : customer_makes two_paid (ask_of 7) ≡ counts 2 1 1
   pub customer_after_two_deliveries : customer_makes two_arrived (ask_of 7) ≡ counts 2 1 2
   pub customer_9_after_his_delivery : customer_makes two_arrived (ask_of 9) ≡ counts 1 0 1

@@ -6,8 +6,8 @@ use Rattle.market_events.specs.declared.links.Link.TheVariants.{Service}
 use Rattle.market_events.specs.declared.replies.Rule.TheVariants as rule
 use Rattle.market_events.specs.declared.requests.Ask.TheVariants as ask
 use Rattle.market_events.specs.declared.bodies.Item.{Item}
-use Rattle.market_events.specs.Examples.{an_id, a_line, an_item, request, refusal, makes, mug, cup, basket, mug_lines, mug_reserved, mug_invoice, mug_paid, mug_shipped}
-use Rattle.market_events.specs.ExamplesOrder.{mug_invoiced, mug_is_paid, mug_is_shipped, mug_is_delivered, mug_is_cancelled, no_payment, two_lines, half_delivered}
+use Rattle.market_events.specs.Examples.{an_id, a_line, an_item, strange_item, request, refusal, makes, mug, cup, basket, mug_lines, mug_reserved, mug_invoice, mug_paid, mug_shipped}
+use Rattle.market_events.specs.ExamplesOrder.{mug_invoiced, mug_is_paid, mug_is_shipped, mug_is_delivered, mug_to_8, mug_is_cancelled, no_payment, two_lines, half_delivered}
 use Rattle.market_events.specs.Services.{Role, fits, reactions}
 use Rattle.market_events.specs.Steps.{Step, Sending}
 
@@ -82,6 +82,12 @@ pub record OrderShipmentFits : Type 0 where
   pub delivery_of_the_rest : order_takes half_delivered (delivered (an_item (an_id 7 6) cup ∷ [])) ≡ true
   pub delivery_of_more_than_the_rest :
       order_takes half_delivered (delivered (an_item (an_id 7 6) mug ∷ an_item (an_id 7 6) cup ∷ [])) ≡ false
+  pub item_of_other_customer : order_takes mug_is_shipped (delivered (strange_item basket mug ∷ [])) ≡ true
+  pub two_customers_of_one_line : order_takes mug_is_shipped (delivered (mug_item ∷ strange_item basket mug ∷ [])) ≡ true
+  pub own_item_after_that_of_other_customer : order_takes mug_to_8 (delivered (mug_item ∷ [])) ≡ true
+  pub item_of_other_customer_after_the_own : order_takes mug_is_delivered (delivered (strange_item basket mug ∷ [])) ≡ true
+  pub item_of_other_customer_twice : order_takes mug_to_8 (delivered (strange_item basket mug ∷ [])) ≡ false
+  pub item_of_other_customer_of_no_line : order_takes mug_is_shipped (delivered (strange_item basket cup ∷ [])) ≡ false
   pub delivery_for_customers : order_takes mug_is_shipped (Service 15, body.Delivered (mug_item ∷ [])) ≡ false
 
 pub record OrderFits : Type 0 where

@@ -6,8 +6,8 @@ use Rattle.market_events.specs.declared.bodies.PayRule.TheVariants as pay
 use Rattle.market_events.specs.declared.links.Link.TheVariants.{Service}
 use Rattle.market_events.specs.declared.replies.Reply.TheVariants as reply
 use Rattle.market_events.specs.declared.requests.Ask.TheVariants as ask
-use Rattle.market_events.specs.Examples.{an_id, an_item, request, answer, makes, quiet, mug, cup, basket, mug_lines, mug_invoice, mug_paid, mug_shipped}
-use Rattle.market_events.specs.ExamplesCustomer.{base_paid, base_delivered}
+use Rattle.market_events.specs.Examples.{an_id, an_item, strange_item, request, answer, makes, quiet, mug, cup, basket, mug_lines, mug_invoice, mug_paid, mug_shipped}
+use Rattle.market_events.specs.ExamplesCustomer.{base_paid, base_delivered, two_delivered}
 use Rattle.market_events.specs.ExamplesPayment.{mug_bill, was_paid, other_bill, fails_by}
 use Rattle.market_events.specs.ExamplesShipment.{deliver, nothing_arrives, base_shipped}
 use Rattle.market_events.specs.Services.{Role, fits, reactions}
@@ -97,5 +97,8 @@ pub record CustomerFits : Type 0 where
   pub delivery_twice : customer_takes base_delivered (delivered (mug_item ∷ [])) ≡ false
   pub one_item_delivered_twice : customer_takes base_delivered (delivered (cup_item ∷ mug_item ∷ [])) ≡ false
   pub item_twice : customer_takes base_paid (delivered (mug_item ∷ cup_item ∷ mug_item ∷ [])) ≡ false
+  pub item_of_other_customer : customer_takes base_delivered (delivered (strange_item basket mug ∷ [])) ≡ true
+  pub two_customers_of_one_line : customer_takes base_paid (delivered (mug_item ∷ strange_item basket mug ∷ [])) ≡ true
+  pub item_of_other_customer_twice : customer_takes two_delivered (delivered (strange_item basket mug ∷ [])) ≡ false
   pub delivery_for_sellers : customer_takes base_paid (Service 14, body.Delivered (mug_item ∷ [])) ≡ false
   pub shipment_is_not_for_customers : customer_takes base_paid (Service 15, mug_shipped) ≡ false

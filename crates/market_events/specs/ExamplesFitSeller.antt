@@ -5,8 +5,8 @@ use Rattle.market_events.specs.declared.bodies.Item.{Item}
 use Rattle.market_events.specs.declared.bodies.PayRule.TheVariants as pay
 use Rattle.market_events.specs.declared.links.Link.TheVariants.{Service, Asked}
 use Rattle.market_events.specs.declared.requests.Ask.TheVariants as ask
-use Rattle.market_events.specs.Examples.{an_id, an_item, request, makes, mug, cup, pot, basket, mug_lines, mug_invoice, mug_paid, mug_shipped}
-use Rattle.market_events.specs.ExamplesSeller.{base_invoiced, base_paid, base_shipped, base_delivered, base_cancelled, three_lines, three_shipped, one_delivered, ask_of, shows}
+use Rattle.market_events.specs.Examples.{an_id, an_item, strange_item, request, makes, mug, cup, pot, basket, mug_lines, mug_invoice, mug_paid, mug_shipped}
+use Rattle.market_events.specs.ExamplesSeller.{base_invoiced, base_paid, base_shipped, base_delivered, two_delivered, base_cancelled, three_lines, three_shipped, one_delivered, ask_of, shows}
 use Rattle.market_events.specs.Services.{Role, fits, reactions}
 use Rattle.market_events.specs.Steps.{Step, Sending}
 
@@ -69,6 +69,11 @@ pub record SellerFits : Type 0 where
       seller_takes three_shipped (delivered (mug_item ∷ an_item (an_id 7 6) mug ∷ an_item (an_id 7 6) pot ∷ [])) ≡ true
   pub one_item_delivered_twice : seller_takes one_delivered (delivered (mug_item ∷ an_item (an_id 7 6) mug ∷ [])) ≡ false
   pub delivery_of_the_rest : seller_takes one_delivered (delivered (mug_item ∷ an_item (an_id 7 6) cup ∷ [])) ≡ true
+  pub item_of_other_customer : seller_takes base_shipped (delivered (strange_item basket mug ∷ [])) ≡ true
+  pub two_customers_of_one_line : seller_takes base_shipped (delivered (mug_item ∷ strange_item basket mug ∷ [])) ≡ true
+  pub item_of_other_customer_after_the_own : seller_takes base_delivered (delivered (strange_item basket mug ∷ [])) ≡ true
+  pub item_of_other_customer_twice : seller_takes two_delivered (delivered (strange_item basket mug ∷ [])) ≡ false
+  pub item_of_other_customer_of_no_line : seller_takes base_shipped (delivered (strange_item basket cup ∷ [])) ≡ false
   pub new_request_is_answered :
       reactions Role.Seller [] (Asked 7 7) (body.Asked (record { id = an_id 7 9; ask = ask.Dashboard 5 })) ≡ shows 0 0 0 []
   pub request_again_is_not :

@@ -11,7 +11,7 @@ use Rattle.market_events.specs.declared.replies.OrderStatus.TheVariants as statu
 use Rattle.market_events.specs.declared.replies.Reply.TheVariants as reply
 use Rattle.market_events.specs.declared.replies.Rule.TheVariants as rule
 use Rattle.market_events.specs.declared.requests.Ask.TheVariants as ask
-use Rattle.market_events.specs.Examples.{an_id, a_line, an_item, request, answer, refusal, makes, quiet, mug, cup, basket, mug_reserved, mug_invoice, mug_paid, mug_shipped, mug_ended}
+use Rattle.market_events.specs.Examples.{an_id, a_line, an_item, strange_item, request, answer, refusal, makes, quiet, mug, cup, basket, mug_reserved, mug_invoice, mug_paid, mug_shipped, mug_ended}
 use Rattle.market_events.specs.Services.{Role, answers}
 use Rattle.market_events.specs.Steps.{Step, Sending}
 
@@ -30,6 +30,13 @@ mug_is_shipped = mug_is_paid ++ makes (Service 13, mug_shipped) ((Service 7, mug
 
 abbrev pub mug_is_delivered : List Step
 mug_is_delivered = mug_is_shipped ++ quiet (Service 13, body.Delivered (an_item basket mug ∷ [])) ∷ []
+
+-- the mug of customer 7 came with the name of customer 8, and then with the right one
+abbrev pub mug_to_8 : List Step
+mug_to_8 = mug_is_shipped ++ quiet (Service 13, body.Delivered (strange_item basket mug ∷ [])) ∷ []
+
+abbrev pub mug_to_8_and_7 : List Step
+mug_to_8_and_7 = mug_to_8 ++ quiet (Service 13, body.Delivered (an_item basket mug ∷ [])) ∷ []
 
 -- no payment by this rule, and how the checkout ends then
 abbrev pub no_payment : PayRule → Sending
@@ -84,3 +91,11 @@ pub record OrderExamples : Type 0 where
   pub order_cancelled : order_makes mug_is_cancelled ask_5 ≡ is_at status.Cancelled 1950
   pub order_of_a_later_checkout : order_makes half_delivered ask_5 ≡ is_at status.Delivered 1950
   pub order_half_delivered_is_shipped : order_makes half_delivered ask_6 ≡ is_at status.Shipped 2010
+  -- an item of another customer delivers no line of it
+  pub order_is_not_delivered_to_another_customer : order_makes mug_to_8 ask_5 ≡ is_at status.Shipped 1950
+  pub order_is_delivered_to_its_own_customer : order_makes mug_to_8_and_7 ask_5 ≡ is_at status.Delivered 1950
+  pub order_with_both_items_at_once_is_delivered :
+      order_makes (mug_is_shipped ++ quiet (Service 13, body.Delivered (strange_item basket mug ∷ an_item basket mug ∷ [])) ∷ []) ask_5
+      ≡ is_at status.Delivered 1950
+  pub order_of_two_lines_with_one_of_another_customer :
+      order_makes (half_delivered ++ quiet (Service 13, body.Delivered (strange_item (an_id 7 6) cup ∷ [])) ∷ []) ask_6 ≡ is_at status.Shipped 2010

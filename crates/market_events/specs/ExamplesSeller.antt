@@ -11,7 +11,7 @@ use Rattle.market_events.specs.declared.replies.OrderStatus.{OrderStatus}
 use Rattle.market_events.specs.declared.replies.OrderStatus.TheVariants as status
 use Rattle.market_events.specs.declared.replies.Reply.TheVariants as reply
 use Rattle.market_events.specs.declared.requests.Ask.TheVariants as ask
-use Rattle.market_events.specs.Examples.{a_key, an_id, a_line, an_item, request, answer, quiet, mug, cup, pot, basket, mug_invoice, mug_paid, mug_shipped}
+use Rattle.market_events.specs.Examples.{a_key, an_id, a_line, an_item, strange_item, request, answer, quiet, mug, cup, pot, basket, mug_invoice, mug_paid, mug_shipped}
 use Rattle.market_events.specs.Services.{Role, answers}
 use Rattle.market_events.specs.Steps.{Step, Sending}
 
@@ -45,6 +45,10 @@ base_shipped = base_paid ++ quiet (Service 14, mug_shipped) ∷ []
 
 abbrev pub base_delivered : List Step
 base_delivered = base_shipped ++ quiet (Service 14, body.Delivered (an_item basket mug ∷ [])) ∷ []
+
+-- and the same line once more, with the name of customer 8
+abbrev pub two_delivered : List Step
+two_delivered = base_delivered ++ quiet (Service 14, body.Delivered (strange_item basket mug ∷ [])) ∷ []
 
 abbrev pub base_cancelled : List Step
 base_cancelled = base_invoiced ++ quiet (Service 12, body.Failed basket 7 pay.NoCard) ∷ []
@@ -83,6 +87,8 @@ pub record SellerExamples : Type 0 where
   pub dashboard_paid : seller_makes base_paid (ask_of 5) ≡ shows 2 1 1950 (mug_row status.Paid ∷ [])
   pub dashboard_shipped : seller_makes base_shipped (ask_of 5) ≡ shows 3 1 1950 (mug_row status.Shipped ∷ [])
   pub dashboard_delivered : seller_makes base_delivered (ask_of 5) ≡ shows 4 0 0 []
+  -- each item is a change, and the entry stays delivered
+  pub dashboard_with_a_line_delivered_twice : seller_makes two_delivered (ask_of 5) ≡ shows 5 0 0 []
   pub dashboard_cancelled : seller_makes base_cancelled (ask_of 5) ≡ shows 2 0 0 []
   -- two checkouts
   pub dashboard_of_two_checkouts :

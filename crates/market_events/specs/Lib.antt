@@ -1,13 +1,8 @@
-pub mod Results
 pub mod Requests
 pub mod Copies
 pub mod Looks
-pub mod Workload
 pub mod WellFormed
 pub mod Texts
-pub mod Reading
-pub mod Readers
-pub mod Cutting
 pub mod Links
 pub mod Carried
 pub mod Counts

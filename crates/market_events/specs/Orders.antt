@@ -45,11 +45,25 @@ items_taken steps = flat_map items_in (taken_bodies steps)
 abbrev pub is_item_of : RequestId → ProductKey → Item → Bool
 is_item_of id key item = same_id item.checkout id && same_key item.key key
 
+-- two items are the same: of one checkout, one product and one customer
+abbrev pub same_item : Item → Item → Bool
+same_item a b = is_item_of a.checkout a.key b && (b.customer == a.customer)
+
+-- the item of a line of a checkout
+abbrev pub item_of : Reservation → PricedLine → Item
+item_of r line = record { checkout = r.checkout; customer = r.customer; key = line.key }
+
+-- the line of a checkout stands in none of these items
+abbrev pub is_left : List Item → Reservation → PricedLine → Bool
+is_left items r line = not (list_any (same_item (item_of r line)) items)
+
+-- the lines of the checkout that stand in none of them
+abbrev pub lines_left : List Item → RequestId → Reservation → List PricedLine
+lines_left items id r = if is_of id r then filter (is_left items r) r.lines else []
+
 -- the lines of the checkout that stood in no delivery
 abbrev pub open_lines : List Step → RequestId → List PricedLine
-open_lines steps id =
-    filter (λ (line : PricedLine). not (list_any (is_item_of id line.key) (items_taken steps)))
-    (flat_map (λ (r : Reservation). if is_of id r then r.lines else []) (checkouts_taken steps))
+open_lines steps id = flat_map (lines_left (items_taken steps) id) (checkouts_taken steps)
 
 abbrev pub ships : RequestId → Body → Bool
 ships id (body.Shipped checkout) = same_id checkout id

@@ -19,7 +19,7 @@ use Rattle.market_events.specs.Customers.{customer_sums, customer_rows}
 use Rattle.market_events.specs.Formed.{body_formed}
 use Rattle.market_events.specs.Links.{cart_node, product_node, stock_node, order_node, payment_node, shipment_node, customer_node, seller_node, receiver_of}
 use Rattle.market_events.specs.Looks.{is_live, look_version}
-use Rattle.market_events.specs.Orders.{checkouts_taken, is_of, is_taken, ships, items_taken, is_item_of, order_sums, order_rows}
+use Rattle.market_events.specs.Orders.{checkouts_taken, is_of, is_taken, ships, items_taken, same_item, order_sums, order_rows}
 use Rattle.market_events.specs.Payments.{payment_sums, payment_rows}
 use Rattle.market_events.specs.Products.{product_sums, product_rows}
 use Rattle.market_events.specs.Requests.{same_id, same_key}
@@ -119,12 +119,12 @@ settles_fit steps id seen = seen && not (is_settled steps id)
 abbrev pub ships_fit : List Step → RequestId → Bool
 ships_fit steps id = is_taken confirms steps id && not (is_taken ships steps id)
 
--- no item occurs twice, or in an earlier delivery
+-- no item occurs twice, or in an earlier delivery: two items that differ in the customer alone are two
 abbrev pub items_apart : List Item → List Item → Bool
 items_apart before [] = true
-items_apart before (i ∷ more) = not (list_any (is_item_of i.checkout i.key) before) && items_apart (before ++ i ∷ []) more
+items_apart before (i ∷ more) = not (list_any (same_item i) before) && items_apart (before ++ i ∷ []) more
 
--- the item is a line of a checkout that was shipped
+-- the item is of a line of a checkout that was shipped, whoever its customer is
 abbrev pub is_line_of : List PricedLine → Item → Bool
 is_line_of lines item = list_any (λ (line : PricedLine). same_key line.key item.key) lines
 

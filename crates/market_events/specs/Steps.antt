@@ -2,11 +2,10 @@
 -- last-of over the list of its steps, the oldest first.
 use Rattle.std.specs.Prelude.{◌≡◌, ℕ, ◌+◌, Bool, true, false, ◌==◌, ◌&&◌, List, [], ◌∷◌, Option, Some, None, map, filter, filter_map, fold, if◌then◌else◌}
 use Rattle.std.specs.List.{flat_map, list_any}
-use Rattle.std.specs.Ordering.{nat_cmp, ordering_then}
-use Rattle.std.specs.declared.cmp.Ordering.{Ordering}
 use Rattle.std.specs.FinMap.Entries as entries
 use Rattle.market_amounts.specs.declared.keys.ProductKey.{ProductKey}
 use Rattle.market_amounts.specs.declared.keys.RequestId.{RequestId}
+pub use Rattle.market_amounts.specs.Keys.{key_cmp, id_cmp}
 use Rattle.market_events.specs.declared.bodies.Body.{Body}
 use Rattle.market_events.specs.declared.bodies.Body.TheVariants as body
 use Rattle.market_events.specs.declared.bodies.PricedLine.{PricedLine}
@@ -27,6 +26,10 @@ pub record Step : Type 0 where
   pub from : Link
   pub body : Body
   pub made : List Sending
+
+-- how many bodies a step makes at most
+abbrev pub most_outs : ℕ
+most_outs = 8
 
 -- the bodies that were taken
 abbrev pub taken_bodies : List Step → List Body
@@ -51,13 +54,6 @@ told service id r = (Told service (lane_of id), body.Told id r)
 -- it refuses the request
 abbrev pub refused : ℕ → RequestId → Rule → List Sending
 refused service id rule = told service id (reply.Refused rule) ∷ []
-
--- keys by seller, then product; ids by caller, then number
-abbrev pub key_cmp : ProductKey → ProductKey → Ordering
-key_cmp a b = ordering_then (nat_cmp a.seller b.seller) (nat_cmp a.product b.product)
-
-abbrev pub id_cmp : RequestId → RequestId → Ordering
-id_cmp a b = ordering_then (nat_cmp a.caller b.caller) (nat_cmp a.number b.number)
 
 -- pairs by rising key, the last of each key
 abbrev pub listed : {V : Type 0} → List (ProductKey × V) → List (ProductKey × V)

@@ -4,6 +4,7 @@ use Rattle.std.specs.Fmt.{decimal}
 use Rattle.std.specs.List.{join_with_byte}
 use Rattle.market_amounts.specs.declared.keys.ProductKey.{ProductKey}
 use Rattle.market_amounts.specs.declared.keys.RequestId.{RequestId}
+pub use Rattle.market_words.specs.Names.{id_text, key_text}
 use Rattle.market_events.specs.declared.bodies.PricedLine.{PricedLine}
 use Rattle.market_events.specs.declared.bodies.Item.{Item}
 use Rattle.market_events.specs.declared.bodies.Ending.{Ending}
@@ -32,14 +33,6 @@ use Rattle.market_events.specs.declared.requests.Request.{Request}
 -- words with single spaces between them
 abbrev pub spaced : List (List ℕ) → List ℕ
 spaced words = join_with_byte 32 words
-
--- CALLER.NUMBER
-abbrev pub id_text : RequestId → List ℕ
-id_text id = join_with_byte 46 (decimal id.caller ∷ decimal id.number ∷ [])
-
--- SELLER:PRODUCT
-abbrev pub key_text : ProductKey → List ℕ
-key_text key = join_with_byte 58 (decimal key.seller ∷ decimal key.product ∷ [])
 
 -- SELLER:PRODUCT:QUANTITY:PRICE:FREIGHT:VOUCHER
 abbrev pub line_text : PricedLine → List ℕ

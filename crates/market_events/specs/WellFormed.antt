@@ -5,6 +5,7 @@ use Rattle.std.specs.List.{AllByRecursion}
 use Rattle.market_amounts.specs.declared.keys.ProductKey.{ProductKey}
 use Rattle.market_amounts.specs.declared.keys.RequestId.{RequestId}
 use Rattle.market_amounts.specs.Amounts.{amount_of}
+pub use Rattle.market_words.specs.Names.{id_max, IsId, IsKey, IsRequestId}
 use Rattle.market_events.specs.declared.bodies.PricedLine.{PricedLine}
 use Rattle.market_events.specs.declared.bodies.Item.{Item}
 use Rattle.market_events.specs.declared.bodies.Ending.{Ending}
@@ -27,10 +28,6 @@ use Rattle.market_events.specs.declared.replies.UndoneRule.TheVariants as undone
 use Rattle.market_events.specs.declared.requests.Ask.{Ask}
 use Rattle.market_events.specs.declared.requests.Ask.TheVariants as ask
 use Rattle.market_events.specs.declared.requests.Request.{Request}
-
--- sellers, products, customers, callers, numbers of requests, versions, points and counts
-abbrev pub id_max : ℕ
-id_max = 4_294_967_295
 
 -- prices, freights and vouchers
 abbrev pub cents_max : ℕ
@@ -65,9 +62,6 @@ most_items = 320
 abbrev pub most_rows : ℕ
 most_rows = 50
 
-abbrev pub IsId : ℕ → Type 0
-IsId n = n ≤ id_max
-
 abbrev pub AreCents : ℕ → Type 0
 AreCents n = n ≤ cents_max
 
@@ -76,14 +70,6 @@ IsQuantity n = (1 ≤ n) × (n ≤ quantity_max)
 
 abbrev pub ArePieces : ℕ → Type 0
 ArePieces n = n ≤ pieces_max
-
-pub record IsKey (key : ProductKey) : Type 0 where
-  pub seller : IsId key.seller
-  pub product : IsId key.product
-
-pub record IsRequestId (id : RequestId) : Type 0 where
-  pub caller : IsId id.caller
-  pub number : IsId id.number
 
 pub record IsLine (line : PricedLine) : Type 0 where
   pub key : IsKey line.key

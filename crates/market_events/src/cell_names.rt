@@ -10,11 +10,8 @@ ghost use Rattle.market_events.specs.Texts.{id_text, key_text};
 ghost use Rattle.market_events.specs.Formed.{key_formed, request_id_formed};
 
 use crate::cells::CellName;
-use crate::texts::faults::WordFault;
-use crate::texts::forms::{id, id_number, key};
-use crate::texts::parts::{IdText, KeyText};
-use crate::texts::pieces::Pieces;
 use market_amounts::{List, ProductKey, RequestId};
+use market_words::{IdText, KeyText, Pieces, WordFault, id, id_number, key};
 use std::alloc::{AllocError, Global};
 
 /// The name of the cell of a number.

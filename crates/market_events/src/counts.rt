@@ -1,7 +1,7 @@
 //! Counts of events, one for each service link.
 
 ghost use Rattle.std.specs.Prelude.{◌≡◌, ℕ, ◌<◌, length, slice_index, replicate};
-ghost use Rattle.market_events.specs.Counts.{with_raised, IsMergeOf};
+ghost use Rattle.market_events.specs.Counts.{AreCounts, with_raised, IsMergeOf};
 
 use crate::links::SERVICE_LINKS;
 use std::marker::Model;
@@ -28,6 +28,7 @@ impl Counts {
         ensures zeros { result ≡ replicate SERVICE_LINKS 0 }
         ensures len { length result ≡ SERVICE_LINKS }
         ensures each { (k : ℕ) → slice_index result k ≡ 0 }
+        ensures in_range { AreCounts result }
     {
         Counts {
             counts: [0; SERVICE_LINKS],
@@ -52,10 +53,11 @@ impl Counts {
         self.counts[at] = self.counts[at].max(number);
     }
 
-    /// Each count becomes the greater of its two.
+    /// Each count becomes the greater of its two, all of which are in their range.
     pub fn merge(&mut self, other: &Counts)
         ensures merged { IsMergeOf self.new self.old other.now }
         ensures len { length self.new ≡ length self.old }
+        ensures in_range { AreCounts other.now }
     {
         for i in 0..SERVICE_LINKS {
             self.counts[i] = self.counts[i].max(other.counts[i]);

@@ -1,5 +1,5 @@
 //! The values that the marketplace speaks of: nodes and links, requests, replies, events and what they tell, with the
-//! reading of workload records and the texts of values, both ways. Nothing here runs.
+//! definitions of what services answer and of their cells. Nothing here runs.
 #![tactic(auto)]
 
 mod bodies;
@@ -8,13 +8,9 @@ mod cell_names;
 mod cells;
 mod changes;
 mod counts;
-#[cfg(test)]
-mod event_tests;
 mod events;
 pub mod examples;
 pub mod laws;
-#[cfg(test)]
-mod link_tests;
 mod links;
 mod name_lists;
 mod nodes;
@@ -22,12 +18,6 @@ mod outs;
 mod replies;
 mod requests;
 mod service;
-#[cfg(test)]
-mod tests;
-#[cfg(test)]
-mod text_tests;
-mod texts;
-mod workload;
 
 pub use bodies::{Body, Ending, Item, PayRule, PricedLine, StockRule};
 pub use cell_lists::{CellList, value_or_empty};
@@ -45,7 +35,3 @@ pub use outs::{MOST_OUTS, Outs};
 pub use replies::{EntryRow, OrderStatus, Reply, Rule, UndoneRule};
 pub use requests::{Ask, Request};
 pub use service::{Service, Tabled};
-pub use texts::{
-    BodyError, BodyFault, body_text, read_body, read_reply, read_request, reply_text, request_text,
-};
-pub use workload::{WorkRule, read_fields};

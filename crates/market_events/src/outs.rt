@@ -1,6 +1,7 @@
 //! What a step of a service makes.
 
 ghost use Rattle.std.specs.Prelude.{◌≡◌, ◌<◌, ◌≤◌, ◌↔◌, [], ◌∷◌, ◌++◌, length, IsTrue, IfSome, IsNone, IfNone, OnOk, OnErr};
+ghost use Rattle.market_events.specs.Steps.{most_outs};
 
 use crate::bodies::Body;
 use crate::links::Link;
@@ -8,7 +9,7 @@ use std::alloc::{AllocError, Global};
 use std::collections::VecDeque;
 use std::marker::Model;
 
-/// How many bodies one step makes at most.
+/// How many bodies one step makes at most: eight.
 pub const MOST_OUTS: usize = 8;
 
 // A body on its link, and a copy of it. Contracts see the link with the body.
@@ -31,7 +32,7 @@ impl Model for Out {
     ghost invariant = { λ out. out.copy ≡ out.body };
 }
 
-/// The bodies that a step makes, in order, each on its link: at most `MOST_OUTS`. Contracts see the list of the links
+/// The bodies that a step makes, in order, each on its link: at most eight. Contracts see the list of the links
 /// with the bodies. Each body is kept with a copy, so that it can be given to two takers without taking memory.
 #[derive(Debug, Drop)]
 pub struct Outs {
@@ -64,7 +65,7 @@ impl Outs {
     /// How many bodies there are.
     pub fn len(&self) -> usize
         ensures value { result ≡ length self.now }
-        ensures in_range { result ≤ MOST_OUTS }
+        ensures in_range { result ≤ most_outs }
     {
         self.outs.len()
     }
@@ -76,9 +77,9 @@ impl Outs {
         self.outs.is_empty()
     }
 
-    /// Adds a body on its link, which requires that there are fewer than `MOST_OUTS`. On want of memory nothing is added.
+    /// Adds a body on its link, which requires that there are fewer than eight. On want of memory nothing is added.
     pub fn push(&mut self, link: Link, body: Body) -> Result<(), AllocError>
-        requires { length self.old < MOST_OUTS }
+        requires { length self.old < most_outs }
         ensures ok { OnOk result (self.new ≡ self.old ++ (link, body) ∷ []) }
         ensures err { OnErr result (self.new ≡ self.old) }
     {

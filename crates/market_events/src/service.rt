@@ -5,7 +5,7 @@ ghost use Rattle.std.specs.List.{IsDistinct};
 ghost use Rattle.market_events.specs.declared.cells.CellName.{CellName};
 ghost use Rattle.market_events.specs.Cells.{cells_of};
 ghost use Rattle.market_events.specs.Services.{Role, fits, reactions};
-ghost use Rattle.market_events.specs.Standing.{Stands, StandsForSome, CanTake, with_step, same_name, is_named, has_cell, value_of, most_touched};
+ghost use Rattle.market_events.specs.Standing.{Stands, StandsForSome, CanTake, with_step, same_name, is_named, has_cell, value_of, may_change, most_touched};
 ghost use Rattle.market_events.specs.Steps.{Step};
 
 use crate::bodies::Body;
@@ -46,12 +46,15 @@ pub trait Tabled: Service {
         ensures { IfOk result (λ cells. (steps : List Step) → Stands Self.role Self.holds self.now steps → cells.items ≡ cells_of Self.role steps) };
 
     /// The names of the cells that the input changes: at most 64, and at most 320 for packages that were delivered and
-    /// for a request to deliver. It requires that the input fits some steps for which the service stands.
+    /// for a request to deliver. Each is of a table that an input of this kind may change, so an input that changes no
+    /// table touches nothing. It requires that the input fits some steps for which the service stands.
     fn touches(&self, from: Link, body: &Body) -> Result<Vec<CellName>, AllocError>
         requires { CanTake Self.role Self.holds self.now from body.now }
         ensures covers { IfOk result (λ names. (steps : List Step) → Stands Self.role Self.holds self.now steps → fits Self.role steps from body.now ≡ true
             → (name : CellName) → is_named names.items name ≡ false
             → value_of (cells_of Self.role (with_step Self.role steps from body.now)) name ≡ value_of (cells_of Self.role steps) name) }
+        ensures tables { IfOk result (λ names. (name : CellName)
+            → is_named names.items name ≡ true → may_change Self.role body.now name ≡ true) }
         ensures differ { IfOk result (λ names. IsDistinct same_name names.items) }
         ensures few { IfOk result (λ names. vec_len names ≤ most_touched body.now) };
 

@@ -1,5 +1,6 @@
 -- One more entry of a journal, and what it knows of the service links.
-use Rattle.std.proofs.Common.{◌≡◌, ℕ, ◌<◌, true, false, max, List, [], ◌∷◌, ◌++◌, length, slice_index, ap, sym, ◌∙◌, arith}
+use Rattle.std.proofs.Common.{◌≡◌, ℕ, ◌^◌, ◌<◌, ◌≤◌, true, false, max, List, [], ◌∷◌, ◌++◌, length, slice_index, ap, sym, ◌∙◌, arith}
+use Rattle.std.specs.List.{AllByRecursion}
 use Rattle.std.proofs.lemmas.List.{ext_get_or}
 use Rattle.std.proofs.lemmas.List.FromFn.{length-map-range_with_len, get_or-map-range_with_len}
 use Rattle.market_amounts.specs.declared.keys.RequestId.{RequestId}
@@ -10,6 +11,7 @@ use Rattle.market_events.specs.declared.links.Link.TheVariants.{Service}
 use Rattle.market_events.specs.declared.links.TheConstants.{SERVICE_LINKS}
 use Rattle.market_events.specs.declared.replies.Reply.{Reply}
 use Rattle.market_events.specs.declared.requests.Request.{Request}
+use Rattle.market_events.specs.Counts.{AreCounts}
 use Rattle.market_events.specs.Links.{same_link}
 use Rattle.market_history.specs.Causality.{number_on, count_in, count_told, known, past_of, RestsOn, HasPasts}
 use Rattle.market_history.proofs.StampLaws.{EachAfter-push}
@@ -42,6 +44,16 @@ pub past_of-by : (xs : List Entry) (counts : List ℕ) → length counts ≡ SER
 past_of-by xs counts len each =
     ext_get_or 0 counts (past_of xs) (len ∙ sym (length-past_of xs))
     (λ k lt. let below : k < SERVICE_LINKS = omega arith in each k below ∙ sym (slice_index-past_of xs k below))
+
+-- what is known is within a bound, where each entry tells of no more
+pub known-most : (top : ℕ) (xs : List Entry) (k : ℕ) → AllByRecursion (λ (x : Entry). count_told x k ≤ top) xs → known xs k ≤ top
+known-most top [] k each = omega arith
+known-most top (x ∷ xs) k each = omega (arith, each.0, known-most top xs k each.1)
+
+-- and the past of the next event then has its counts in their range
+pub past_of-counts : (top : ℕ) (xs : List Entry) → top < 2 ^ 32 → ((k : ℕ) → k < SERVICE_LINKS → known xs k ≤ top) → AreCounts (past_of xs)
+past_of-counts top xs low each =
+    record { each = length-past_of xs; high = λ k lt. omega (arith, slice_index-past_of xs k lt, each k lt) }
 
 -- what an entry of each kind adds
 pub known-push-given : (xs : List Entry) (x : Entry) (k : ℕ) (request : Request) → x.what ≡ Given request → known (xs ++ x ∷ []) k ≡ known xs k

@@ -13,7 +13,7 @@ use Rattle.market_history.specs.Book.{acts_of, tables_of, book}
 use Rattle.market_history.specs.Causality.{past_of}
 use Rattle.market_history.specs.Checkouts.{IsPaidOn, IsWhole, HasEntry, lines_reserved}
 use Rattle.market_history.specs.Examples.{id, mug}
-use Rattle.market_history.specs.ExamplesBase.{base, HasBaseActs, HasBaseTables, BaseExamples}
+use Rattle.market_history.specs.ExamplesBase.{base, HasBaseActs, HasBaseTables, HasServedTables, BaseExamples}
 use Rattle.market_history.specs.Histories.{journal_at, with_journal}
 use Rattle.market_history.specs.Schedule.{outcome_of, play_step}
 
@@ -67,6 +67,9 @@ base_book = record {
   point = refl;
 }
 
+served_tables : HasServedTables
+served_tables = record { order_of_own = refl; order_of_other = refl; package_of_own = refl; package_of_other = refl }
+
 -- the keys of its packages and of its lines
 keys_packed : map {A = Item} {B = ProductKey} (λ p. p.key) (filter (λ (p : Item). same_id p.checkout (id 5)) (packages (service_steps base Role.Shipment))) ≡ mug ∷ []
 unfolding answers fits reactions counts_of is_ready past_of journal_at with_journal node_outs grow play_step
@@ -100,4 +103,4 @@ base_whole = record {
 
 pub base_examples : BaseExamples
 unfolding answers fits reactions counts_of is_ready past_of journal_at with_journal node_outs grow play_step
-base_examples = record { reply = refl; whole = base_whole; acts = base_acts; tables = base_tables; book = base_book; counts = refl }
+base_examples = record { reply = refl; whole = base_whole; acts = base_acts; tables = base_tables; book = base_book; served = served_tables; counts = refl }

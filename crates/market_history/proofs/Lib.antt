@@ -2,6 +2,8 @@ pub mod EntryLaws
 pub mod SentLaws
 pub mod StampLaws
 pub mod CausalityLaws
+pub mod PastCounts
+pub mod ReplyLaws
 pub mod GrowLaws
 pub mod GrowSent
 pub mod CoreEntries

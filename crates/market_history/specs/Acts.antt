@@ -11,7 +11,7 @@ use Rattle.market_events.specs.declared.replies.UndoneRule.{UndoneRule}
 use Rattle.market_events.specs.Carts.{Held, CartSums, joined, with_key}
 use Rattle.market_events.specs.Copies.{ProductChange, copy_of, version_of, last_some}
 use Rattle.market_events.specs.Customers.{CustomerSums}
-use Rattle.market_events.specs.Orders.{OrderSums, is_of, is_item_of, is_nil}
+use Rattle.market_events.specs.Orders.{OrderSums, is_of, is_item_of, lines_left, is_nil}
 use Rattle.market_events.specs.Payments.{PaymentSums}
 use Rattle.market_events.specs.Products.{ProductSums}
 use Rattle.market_events.specs.Requests.{same_key}
@@ -84,16 +84,16 @@ lines_if id r = if is_of id r then r.lines else []
 abbrev pub lines_of : List Reservation → RequestId → List PricedLine
 lines_of checkouts id = flat_map (lines_if id) checkouts
 
--- the lines of a checkout that stood in no delivery
-abbrev pub lines_waiting : List PricedLine → List Item → RequestId → List PricedLine
-lines_waiting lines items id = filter (λ (line : PricedLine). not (list_any (is_item_of id line.key) items)) lines
+-- the lines of a checkout that stood in no delivery, as items of its customer
+abbrev pub lines_waiting : List Reservation → List Item → RequestId → List PricedLine
+lines_waiting checkouts items id = flat_map (lines_left items id) checkouts
 
 -- an order is cancelled where its checkout was not paid, and delivered where each line of it was
 abbrev pub status_by : Acts → RequestId → Option OrderStatus
 status_by acts id =
     if list_any (is_of id) acts.unpaid then Some status.Cancelled
     else if not (list_any (is_of id) acts.whole) then None
-    else if is_nil (lines_waiting (lines_of acts.whole id) acts.items id) then Some status.Delivered
+    else if is_nil (lines_waiting acts.whole acts.items id) then Some status.Delivered
     else Some status.Shipped
 
 -- what the lines of a checkout cost

@@ -13,7 +13,7 @@ use Rattle.market_events.specs.declared.requests.Ask.TheVariants as ask
 use Rattle.market_events.specs.Stocks.{Reservation}
 use Rattle.market_history.specs.declared.schedule.Step.{Step}
 use Rattle.market_history.specs.declared.schedule.Summary.{Summary}
-use Rattle.market_history.specs.Acts.{Acts, BasketAct, StockAct, CardAct}
+use Rattle.market_history.specs.Acts.{Acts, BasketAct, StockAct, CardAct, no_acts, status_by, waiting_by}
 use Rattle.market_history.specs.Book.{Tables, acts_of, tables_of, book}
 use Rattle.market_history.specs.Checkouts.{IsWhole, listed_reservations}
 use Rattle.market_history.specs.Examples.{mug, id, give, offer, create}
@@ -84,11 +84,26 @@ pub record HasBaseTables (t : Tables) : Type 0 where
   pub in_progress : t.in_progress 5 ≡ base_row ∷ []
   pub point : t.point 5 ≡ 3
 
+-- the checkout is whole, and its mug came for this customer, who may be another one
+abbrev pub served : ℕ → Acts
+served customer = record no_acts {
+  whole = base_checkout ∷ [];
+  items = record { checkout = id 5; customer = customer; key = mug } ∷ [];
+}
+
+-- only an item of its own customer delivers the order's line, but any of its line closes the package
+pub record HasServedTables : Type 0 where
+  pub order_of_own : status_by (served 7) (id 5) ≡ Some status.Delivered
+  pub order_of_other : status_by (served 8) (id 5) ≡ Some status.Shipped
+  pub package_of_own : waiting_by (served 7).whole (served 7).items ≡ []
+  pub package_of_other : waiting_by (served 8).whole (served 8).items ≡ []
+
 pub record BaseExamples : Type 0 where
   pub reply : reply_at base (id 5) ≡ Some (reply.Whole 1950)
   pub whole : IsWhole base (id 5) 1950
   pub acts : HasBaseActs (acts_of base)
   pub tables : HasBaseTables (tables_of base)
   pub book : HasBaseTables (book (acts_of base))
+  pub served : HasServedTables
   pub counts : counts_of base
       ≡ record { requests = 5; whole = 1; undone = 0; outstanding = 0; confirmed = 1950; packages = 1; delivered = 0 }

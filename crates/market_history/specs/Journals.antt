@@ -8,7 +8,12 @@ use Rattle.market_events.specs.declared.events.What.{What}
 use Rattle.market_events.specs.declared.events.What.TheVariants.{Given, Taken, Made, Answered}
 use Rattle.market_events.specs.declared.links.Link.{Link}
 use Rattle.market_events.specs.declared.links.Link.TheVariants as link
+use Rattle.market_events.specs.declared.replies.Reply.{Reply}
+use Rattle.market_events.specs.declared.replies.Reply.TheVariants as reply
+use Rattle.market_events.specs.declared.replies.Rule.{Rule}
+use Rattle.market_events.specs.declared.replies.Rule.TheVariants as rule
 use Rattle.market_events.specs.Carried.{carries}
+use Rattle.market_events.specs.Counts.{AreCounts}
 use Rattle.market_events.specs.Links.{IsLink, lane_node, sender_of, receiver_of}
 use Rattle.market_events.specs.Requests.{lane_of}
 use Rattle.market_events.specs.WellFormed.{IsWellFormedEntry}
@@ -33,22 +38,35 @@ abbrev pub AsksOwn : Link → Body → Type 0
 AsksOwn (link.Asked lane service) b = IsAskedBy lane b
 AsksOwn other b = Unit {0}
 
--- the event's numbers are in their ranges, its link can carry its body, and a lane asks its own requests
+-- the event's numbers and the counts of its past are in their ranges, its link can carry its body, and a lane
+-- asks its own requests
 pub record IsEvent (event : Event) : Type 0 where
   pub link : IsLink event.link
   pub number_low : 1 ≤ event.number
   pub number_high : event.number < 2 ^ 32
   pub clock_high : event.clock ≤ 2 ^ 62
+  pub past : AreCounts event.past
   pub body : carries event.link event.body ≡ true
   pub own : AsksOwn event.link event.body
 
--- what may happen at the node with this clock: a lane is given its own requests and answers, and an event is made by
--- its sender, with its clock, or taken by its receiver
+-- a service refuses by the rule; by the other two a lane refuses what it does not keep
+abbrev pub IsOfService : Rule → Type 0
+IsOfService rule.LaneFull = ⊥
+IsOfService rule.RequestDiffers = ⊥
+IsOfService other = Unit {0}
+
+-- a lane can keep the reply: it is no refusal that a lane alone gives
+abbrev pub CanBeKept : Reply → Type 0
+CanBeKept (reply.Refused rule) = IsOfService rule
+CanBeKept other = Unit {0}
+
+-- what may happen at the node with this clock: a lane is given its own requests, and answers with a reply
+-- that it can keep, and an event is made by its sender, with its clock, or taken by its receiver
 abbrev pub CanHappen : ℕ → ℕ → What → Type 0
 CanHappen node clock (Given request) = IsLane node × (lane_node (lane_of request.id) ≡ node)
 CanHappen node clock (Taken event) = IsEvent event × (receiver_of event.link ≡ node)
 CanHappen node clock (Made event) = IsEvent event × (sender_of event.link ≡ node) × (event.clock ≡ clock)
-CanHappen node clock (Answered id reply) = IsLane node
+CanHappen node clock (Answered id reply) = IsLane node × CanBeKept reply
 
 -- the entry may stand at this place of the node's journal, and is well formed
 pub record IsEntry (node place : ℕ) (entry : Entry) : Type 0 where

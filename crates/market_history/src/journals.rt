@@ -72,11 +72,12 @@ impl Journal {
         Ok(())
     }
 
-    /// Adds an entry at the end. It requires an entry that may stand there: fewer than 4,294,967,295 entries before it,
-    /// clocks of at most 2^62, requests and answers at a lane alone, a request at its own lane, and an event that was
-    /// made on a link that this node sends on, with the entry's clock, or taken on one that it receives on, with a number
-    /// from 1 on and a body that its link can carry. On want of memory the entry comes back and the journal is as before;
-    /// it never fails where there is room.
+    /// Adds an entry at the end. It requires an entry that may stand there: fewer than 4,294,967,295 entries
+    /// before it, clocks of at most 2^62, requests and answers at a lane alone, a request at its own lane, no
+    /// answer with a refusal that a lane alone gives, and an event that was made on a link that this node
+    /// sends on, with the entry's clock, or taken on one that it receives on, with a number from 1 on and a
+    /// body that its link can carry. On want of memory the entry comes back and the journal is as before; it
+    /// never fails where there is room.
     pub fn push(&mut self, entry: Entry) -> Result<(), Entry>
         requires { IsEntry self.old.node (length self.old.entries) entry }
         ensures node { self.new.node ≡ self.old.node }

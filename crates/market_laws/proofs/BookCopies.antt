@@ -24,11 +24,11 @@ use Rattle.market_laws.proofs.RunsProduct.{changes-0}
 use Rattle.market_laws.proofs.SettledLinks.{ComesOn}
 
 -- changes come on link 0 into the cart, and on link 1 into stock
-changes-cart : ComesOn 0 0 (λ b. is_some (change_in b))
+pub changes-cart : ComesOn 0 0 (λ b. is_some (change_in b))
 changes-cart (body.Changed key version change) passes = (tt, refl)
 changes-cart other passes = cc
 
-changes-stock : ComesOn 2 1 (λ b. is_some (change_in b))
+pub changes-stock : ComesOn 2 1 (λ b. is_some (change_in b))
 changes-stock (body.Changed key version change) passes = (tt, refl)
 changes-stock other passes = cc
 

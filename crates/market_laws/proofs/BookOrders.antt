@@ -6,14 +6,14 @@ use Rattle.market_events.specs.declared.bodies.Body.TheVariants as body
 use Rattle.market_events.specs.declared.bodies.Item.{Item}
 use Rattle.market_events.specs.declared.replies.OrderStatus.{OrderStatus}
 use Rattle.market_events.specs.declared.replies.OrderStatus.TheVariants as status
-use Rattle.market_events.specs.Orders.{checkouts_taken, is_nil, is_of, is_taken, items_in, items_taken, open_lines, order_status, order_total, ships}
+use Rattle.market_events.specs.Orders.{checkouts_taken, is_nil, is_of, is_left, is_taken, items_in, items_taken, lines_left, open_lines, order_status, order_total, ships}
 use Rattle.market_events.specs.Services.{Role}
 use Rattle.market_events.specs.Shipments.{items_made}
 use Rattle.market_events.specs.Steps.{Step, taken_bodies, made_on}
 use Rattle.market_events.specs.Stocks.{Reservation, confirms, fails}
 use Rattle.market_events.proofs.ListLaws.{any-none, count-none, count-some}
 use Rattle.market_events.proofs.SameLaws.{same_id-true}
-use Rattle.market_history.specs.Acts.{Acts, cost_if, lines_if, lines_of, lines_waiting, status_by}
+use Rattle.market_history.specs.Acts.{Acts, cost_if, lines_waiting, status_by}
 use Rattle.market_history.specs.Blocks.{service_steps}
 use Rattle.market_history.specs.Histories.{Histories, journal_at}
 use Rattle.market_history.specs.Lawful.{IsLawful}
@@ -119,33 +119,27 @@ module _ (h : Histories) (lawful : IsLawful h) (settled : IsSettled h) (id : Req
       let each = count-held id (made_on 4 (service_steps h Role.Stock)) in
       any-counted (fails id) (taken_bodies orders) (omega arith)
 
-  -- its lines are those of the whole checkout
-  whole_lines : was ≡ true → lines_of whole id ≡ lines_of (held h) id
-  whole_lines is = sym (joined-passing (was_paid h) (lines_if id) others (held h))
+  -- its lines that are open are those of the whole checkout
+  waiting : was ≡ true → open_lines orders id ≡ lines_waiting whole items id
+  waiting is =
+      (λ i. lines_waiting (orders-held h lawful settled i) (order_items i) id)
+      ∙ joined-passing (was_paid h) (lines_left items id) others (held h)
     where
-      by : (r : Reservation) (of : Bool) → is_of id r ≡ of → was_paid h r ≡ false → (if of then r.lines else []) ≡ []
+      by : (r : Reservation) (of : Bool) → is_of id r ≡ of → was_paid h r ≡ false → (if of then filter (is_left items r) r.lines else []) ≡ []
       by r true same none = let same : was ≡ false = sym (paid_as r same) ∙ none in cc
       by r false differs none = refl
 
-      others : (r : Reservation) → was_paid h r ≡ false → lines_if id r ≡ []
+      others : (r : Reservation) → was_paid h r ≡ false → lines_left items id r ≡ []
       others r none = by r (is_of id r) refl none
 
-  waiting : was ≡ true → open_lines orders id ≡ lines_waiting (lines_of whole id) items id
-  waiting is =
-      (λ i. lines_waiting (flat_map (lines_if id) (orders-held h lawful settled i)) (order_items i) id)
-      ∙ ap (λ lines. lines_waiting lines items id) (sym (whole_lines is))
-
   sides : order_side (list_any (is_of id) (checkouts_taken orders)) (is_taken fails orders id) (is_nil (open_lines orders id)) (is_taken ships orders id) (is_taken confirms orders id)
-      ≡ book_side (list_any (is_of id) unpaid) (list_any (is_of id) whole) (is_nil (lines_waiting (lines_of whole id) items id))
+      ≡ book_side (list_any (is_of id) unpaid) (list_any (is_of id) whole) (is_nil (lines_waiting whole items id))
   unfolding order_side book_side
   sides = by has was refl refl
     where
-      nil : Bool
-      nil = is_nil (lines_waiting (lines_of whole id) items id)
-
       by : (a q : Bool) → has ≡ a → was ≡ q
           → order_side (list_any (is_of id) (checkouts_taken orders)) (is_taken fails orders id) (is_nil (open_lines orders id)) (is_taken ships orders id) (is_taken confirms orders id)
-          ≡ book_side (list_any (is_of id) unpaid) (list_any (is_of id) whole) (is_nil (lines_waiting (lines_of whole id) items id))
+          ≡ book_side (list_any (is_of id) unpaid) (list_any (is_of id) whole) (is_nil (lines_waiting whole items id))
       by false q there is =
           let first : list_any (is_of id) (checkouts_taken orders) ≡ false = has_order ∙ there in
           let second : list_any (is_of id) unpaid ≡ false = any_unpaid ∙ ap (λ b. b && not was) there in
@@ -159,11 +153,11 @@ module _ (h : Histories) (lawful : IsLawful h) (settled : IsSettled h) (id : Req
           let first : list_any (is_of id) (checkouts_taken orders) ≡ true = has_order ∙ there in
           let second : list_any (is_of id) unpaid ≡ false = any_unpaid ∙ (λ i. there i && not (is i)) in
           let third : list_any (is_of id) whole ≡ true = any_whole ∙ (λ i. there i && is i) in
-          let fourth : is_nil (open_lines orders id) ≡ is_nil (lines_waiting (lines_of whole id) items id) = ap is_nil (waiting is) in
+          let fourth : is_nil (open_lines orders id) ≡ is_nil (lines_waiting whole items id) = ap is_nil (waiting is) in
           rw (first, unfailed is, second, third, shipped is, fourth) refl
 
   -- where the book has these checkouts and items
   pub statuses-book : (acts : Acts) → acts.whole ≡ whole → acts.unpaid ≡ unpaid → acts.items ≡ items → order_status orders id ≡ status_by acts id
   unfolding order_side book_side
   statuses-book acts paid failed delivered =
-      sides ∙ (λ i. book_side (list_any (is_of id) (sym failed i)) (list_any (is_of id) (sym paid i)) (is_nil (lines_waiting (lines_of (sym paid i) id) (sym delivered i) id)))
+      sides ∙ (λ i. book_side (list_any (is_of id) (sym failed i)) (list_any (is_of id) (sym paid i)) (is_nil (lines_waiting (sym paid i) (sym delivered i) id)))

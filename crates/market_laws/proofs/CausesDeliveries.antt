@@ -35,7 +35,7 @@ use Rattle.market_history.specs.Lawful.{IsLawful}
 use Rattle.market_history.specs.Sent.{sent}
 use Rattle.market_laws.specs.Causes.{HasTaken, IsOnOneOf, DeliveryIsCaused, MakesJust, on_each, delivery_asked, DeliveriesHaveCauses}
 use Rattle.market_laws.specs.Cuts.{steps_at, TookAt, MadeAt}
-use Rattle.market_laws.specs.Runs.{Member, is_delivery, IsPaidFor}
+use Rattle.market_laws.specs.Runs.{Member, is_delivery, lines_apart, IsPaidFor}
 use Rattle.market_laws.proofs.CausesBase.{due-here, not-among, among-answers, caused-by, makes-these, made-by, has-taken, made-at, took-at}
 use Rattle.market_laws.proofs.CausesLists.{apart-few}
 use Rattle.market_laws.proofs.CutCauses.{Cause, cause, cause_steps, cause-run, cause-made}
@@ -69,10 +69,10 @@ on_thirteen k (inr (inr (inl same))) steps run b here = subst (λ j. Member b (m
 on_thirteen k (inr (inr (inr never))) steps run b here = absurd never
 
 -- and no item twice on any of them
-apart_on : (k : ℕ) → Member k (15 ∷ 14 ∷ 13 ∷ []) → (steps : List Step) → IsRunOf Role.Shipment steps → items_apart [] (flat_map items_in (made_on k steps)) ≡ true
-apart_on k (inl same) steps run = subst (λ j. items_apart [] (flat_map items_in (made_on j steps)) ≡ true) (sym same) (items-once steps run)
-apart_on k (inr (inl same)) steps run = subst (λ j. items_apart [] (flat_map items_in (made_on j steps)) ≡ true) (sym same) (items_once-14 steps run)
-apart_on k (inr (inr (inl same))) steps run = subst (λ j. items_apart [] (flat_map items_in (made_on j steps)) ≡ true) (sym same) (items_once-13 steps run)
+apart_on : (k : ℕ) → Member k (15 ∷ 14 ∷ 13 ∷ []) → (steps : List Step) → IsRunOf Role.Shipment steps → lines_apart [] (flat_map items_in (made_on k steps)) ≡ true
+apart_on k (inl same) steps run = subst (λ j. lines_apart [] (flat_map items_in (made_on j steps)) ≡ true) (sym same) (items-once steps run)
+apart_on k (inr (inl same)) steps run = subst (λ j. lines_apart [] (flat_map items_in (made_on j steps)) ≡ true) (sym same) (items_once-14 steps run)
+apart_on k (inr (inr (inl same))) steps run = subst (λ j. lines_apart [] (flat_map items_in (made_on j steps)) ≡ true) (sym same) (items_once-13 steps run)
 apart_on k (inr (inr (inr never))) steps run = absurd never
 
 module _ (h : Histories) (lawful : IsLawful h) where

@@ -89,10 +89,6 @@ asks_on : (lane s : ℕ) (c : RequestId) (b : Body) → carries (Asked lane s) b
 asks_on lane s c (body.Asked request) carried named = named
 asks_on lane s c other carried named = cc
 
-tells_on : (s lane : ℕ) (c : RequestId) (b : Body) → carries (Told s lane) b ≡ true → names c b ≡ true → tells c b ≡ true
-tells_on s lane c (body.Told id r) carried named = named
-tells_on s lane c other carried named = cc
-
 module _ (h : Histories) (lawful : IsLawful h) (c : RequestId) (kept : is_kept_checkout h c ≡ true) where
   -- the request comes from the lane of its id, for the cart
   asked_from : (lane s : ℕ) → lane < 16 → (b : Body) → Member b (bodies_on (Asked lane s) (journal_at h (lane_node lane))) → names c b ≡ true → (lane ≡ lane_of c) × (s ≡ cart_node)

@@ -1,4 +1,4 @@
--- Counts of kept elements, and of items that are apart.
+-- Counts of kept elements, and of items of lines that are apart.
 use Rattle.std.proofs.Common.{◌≡◌, ℕ, ◌≤◌, Bool, true, false, cond, not, List, [], ◌∷◌, ◌++◌, filter, count_by, refl, sym, ◌∙◌, subst, arith}
 use Rattle.std.specs.List.{list_any}
 use Rattle.std.proofs.lemmas.List.Sums.{sum_by-cons}
@@ -7,9 +7,9 @@ use Rattle.market_amounts.specs.declared.keys.RequestId.{RequestId}
 use Rattle.market_events.specs.declared.bodies.Item.{Item}
 use Rattle.market_events.specs.Orders.{is_item_of}
 use Rattle.market_events.specs.Requests.{same_id, same_key}
-use Rattle.market_events.specs.Services.{items_apart}
 use Rattle.market_events.proofs.ListLaws.{and_both, not_true, list_any-push, or_left, or_true}
 use Rattle.market_events.proofs.SameLaws.{same_id-true, same_key-true}
+use Rattle.market_laws.specs.Runs.{lines_apart}
 
 -- no more passes among what is kept
 pub count-filter : {A : Type 0} (test keep : A → Bool) (xs : List A) → count_by test (filter keep xs) ≤ count_by test xs
@@ -26,13 +26,13 @@ is_it c key x passes =
     let both = and_both (same_id x.checkout c) (same_key x.key key) passes in (sym (same_id-true x.checkout c both.0), sym (same_key-true x.key key both.1))
 
 -- where one was before, items that are apart have none
-apart_none : (before xs : List Item) (c : RequestId) (key : ProductKey) → items_apart before xs ≡ true → list_any (is_item_of c key) before ≡ true → count_by (is_item_of c key) xs ≡ 0
+apart_none : (before xs : List Item) (c : RequestId) (key : ProductKey) → lines_apart before xs ≡ true → list_any (is_item_of c key) before ≡ true → count_by (is_item_of c key) xs ≡ 0
 apart_none before [] c key apart had = refl
 apart_none before (x ∷ xs) c key apart had =
     by (is_item_of c key x) refl (λ later. apart_none (before ++ x ∷ []) xs c key both.1 later)
   where
-    both : (not (list_any (is_item_of x.checkout x.key) before) ≡ true) × (items_apart (before ++ x ∷ []) xs ≡ true)
-    both = and_both (not (list_any (is_item_of x.checkout x.key) before)) (items_apart (before ++ x ∷ []) xs) apart
+    both : (not (list_any (is_item_of x.checkout x.key) before) ≡ true) × (lines_apart (before ++ x ∷ []) xs ≡ true)
+    both = and_both (not (list_any (is_item_of x.checkout x.key) before)) (lines_apart (before ++ x ∷ []) xs) apart
 
     Rest : Type 0
     Rest = list_any (is_item_of c key) (before ++ x ∷ []) ≡ true → count_by (is_item_of c key) xs ≡ 0
@@ -51,13 +51,13 @@ apart_none before (x ∷ xs) c key apart had =
         omega (arith, none, split, zero)
 
 -- items that are apart have one of each product of a checkout at most
-pub apart-few : (before xs : List Item) (c : RequestId) (key : ProductKey) → items_apart before xs ≡ true → count_by (is_item_of c key) xs ≤ 1
+pub apart-few : (before xs : List Item) (c : RequestId) (key : ProductKey) → lines_apart before xs ≡ true → count_by (is_item_of c key) xs ≤ 1
 apart-few before [] c key apart = omega arith
 apart-few before (x ∷ xs) c key apart =
     by (is_item_of c key x) refl (apart-few (before ++ x ∷ []) xs c key both.1)
   where
-    both : (not (list_any (is_item_of x.checkout x.key) before) ≡ true) × (items_apart (before ++ x ∷ []) xs ≡ true)
-    both = and_both (not (list_any (is_item_of x.checkout x.key) before)) (items_apart (before ++ x ∷ []) xs) apart
+    both : (not (list_any (is_item_of x.checkout x.key) before) ≡ true) × (lines_apart (before ++ x ∷ []) xs ≡ true)
+    both = and_both (not (list_any (is_item_of x.checkout x.key) before)) (lines_apart (before ++ x ∷ []) xs) apart
 
     by : (b : Bool) → is_item_of c key x ≡ b → count_by (is_item_of c key) xs ≤ 1 → count_by (is_item_of c key) (x ∷ xs) ≤ 1
     by true is rest =

@@ -30,6 +30,7 @@ pub mod RunsTold
 pub mod CutLists
 pub mod CutPlaces
 pub mod CutClocks
+pub mod PastFew
 pub mod ViewMade
 pub mod ViewTaken
 pub mod ViewLinks
@@ -123,6 +124,7 @@ pub mod RunsGathered
 pub mod SettledOutcomes
 pub mod SettledWhole
 pub mod BookCopies
+pub mod CopyFronts
 pub mod BookPayments
 pub mod BookOrders
 pub mod BookStock
@@ -131,3 +133,9 @@ pub mod RunsPoint
 pub mod BookPoint
 pub mod BookProgress
 pub mod SettledBook
+pub mod CounterexampleLaws
+pub mod CounterexamplesRuns
+pub mod CounterexamplesHistories
+pub mod CounterexamplesSettled
+pub mod CounterexamplesOldest
+pub mod CounterexamplesCauses

@@ -6,8 +6,9 @@ use Rattle.market_events.specs.declared.events.Entry.{Entry}
 use Rattle.market_events.specs.declared.events.Event.{Event}
 use Rattle.market_events.specs.declared.events.What.{What}
 use Rattle.market_events.specs.declared.events.What.TheVariants.{Given, Taken, Made, Answered}
+use Rattle.market_events.specs.Counts.{AreCounts}
 use Rattle.market_events.specs.Links.{sender_of}
-use Rattle.market_events.specs.WellFormed.{IsBody, IsWellFormedWhat}
+use Rattle.market_events.specs.WellFormed.{IsWellFormedWhat}
 use Rattle.market_history.specs.Causality.{event_taken, events_taken}
 use Rattle.market_history.specs.Histories.{Histories, nodes, journal_at, IsHistories}
 use Rattle.market_history.specs.Journals.{IsEvent, IsEntry, CanHappen, AreEntriesFrom, IsJournal}
@@ -21,8 +22,9 @@ use Rattle.market_laws.proofs.DueLaws.{IsDue, HasNumber}
 use Rattle.market_laws.proofs.FewLaws.{few, length-few}
 use Rattle.market_laws.proofs.MadeLaws.{IsMadeAt, event_taken-is}
 use Rattle.market_laws.proofs.OutLaws.{IsMade}
+use Rattle.market_laws.proofs.PastFew.{past-counts}
 use Rattle.market_laws.proofs.TakenMade.{StandsAt, grown_at, stands-due, stands-made, MadeThere, taken-made}
-use Rattle.market_laws.proofs.ToldLaws.{IsAnswered, grown-answered}
+use Rattle.market_laws.proofs.ToldLaws.{IsAnswered, IsCarried, grown-answered}
 
 -- what is gathered of some entries is no longer than they are
 gathered_few : {B : Type 0} (f : Entry → Option B) (xs : List Entry) → length (filter_map f xs) ≤ length xs
@@ -47,13 +49,14 @@ module _ (h : Histories) (n : ℕ) (lawful : IsLawful h) where
   made_as : (event : Event) → MadeThere h event → IsMade (sender_of event.link) event.link event.body
   made_as event made = subst (IsMadeAt (sender_of event.link)) made.what (stands-made h (sender_of event.link) made.entry lawful made.stands)
 
-  taken_formed : n < nodes → AllByRecursion (λ (e : Event). IsBody e.body) (events_taken (journal_at h n))
-  taken_formed lt = all-by (λ (e : Event). IsBody e.body) (events_taken (journal_at h n)) each
+  taken_carried : n < nodes → AllByRecursion (λ (e : Event). IsCarried e.link e.body) (events_taken (journal_at h n))
+  taken_carried lt = all-by (λ (e : Event). IsCarried e.link e.body) (events_taken (journal_at h n)) each
     where
-      each : (before : List Event) (event : Event) (after : List Event) → events_taken (journal_at h n) ≡ before ++ event ∷ after → IsBody event.body
+      each : (before : List Event) (event : Event) (after : List Event) → events_taken (journal_at h n) ≡ before ++ event ∷ after → IsCarried event.link event.body
       each before event after is =
           let at = gathered-at (λ (x : Entry). event_taken x.what) (journal_at h n) before event after is in
-          (made_as event (taken-made h n at.at event lawful (record { node = lt; before = at.before; after = at.after; is = at.is }) (event_taken-is at.at.what event at.gives))).formed
+          let made = made_as event (taken-made h n at.at event lawful (record { node = lt; before = at.before; after = at.after; is = at.is }) (event_taken-is at.at.what event at.gives)) in
+          (made.formed, made.carried)
 
   module _ (x : Entry) (s : StandsAt h n x) where
     due : IsDue n s.before x
@@ -66,12 +69,13 @@ module _ (h : Histories) (n : ℕ) (lawful : IsLawful h) where
     clock_few = clock-few h x.clock lawful (record { node = n; entry = x; stands = s; clock_is = refl })
 
     -- an event of an entry
-    event_is : (event : Event) → IsMade (sender_of event.link) event.link event.body → 1 ≤ event.number → event.number ≤ length s.before + 1 → event.clock ≤ x.clock → IsEvent event
-    event_is event made low high clock = record {
+    event_is : (event : Event) → IsMade (sender_of event.link) event.link event.body → 1 ≤ event.number → event.number ≤ length s.before + 1 → event.clock ≤ x.clock → AreCounts event.past → IsEvent event
+    event_is event made low high clock past = record {
       link = made.on;
       number_low = low;
       number_high = omega (arith, high, place_few, few h lawful);
       clock_high = omega (arith, clock, clock_few, few h lawful);
+      past = past;
       body = made.carried;
       own = made.own;
     }
@@ -85,24 +89,26 @@ module _ (h : Histories) (n : ℕ) (lawful : IsLawful h) where
         let ready : IsReadyAfter n s.before (Taken event) = subst (IsReadyAfter n s.before) is due.ready in
         let number : HasNumber s.before (Taken event) = subst (HasNumber s.before) is due.number in
         let stamp : x.clock ≡ max (clock_before s.before) event.clock + 1 = due.stamp.0 ∙ ap (stamp_of (clock_before s.before)) is in
-        let made = made_as event (taken-made h n x event lawful s is) in
+        let there = taken-made h n x event lawful s is in
+        let made = made_as event there in
         let short = gathered_few (λ (y : Entry). got_on event.link y.what) s.before in
-        (record { body = made.formed }, (event_is event made (omega arith) (omega arith) (omega arith), ready.1))
+        let past = past-counts h lawful _ there.entry event there.stands there.what in
+        (record { body = made.formed }, (event_is event made (omega arith) (omega arith) (omega arith) past, ready.1))
     what_is (Made event) is =
         let made : IsMadeAt n (Made event) = subst (IsMadeAt n) is (stands-made h n x lawful s) in
         let number : HasNumber s.before (Made event) = subst (HasNumber s.before) is due.number in
         let has : event.clock ≡ x.clock = subst (HasClock x.clock) is due.stamp.1 in
         let short = gathered_few (λ (y : Entry). made_on event.link y.what) s.before in (
           record { body = made.formed },
-          (event_is event (subst (λ k. IsMade k event.link event.body) (sym made.leaves) made) (omega arith) (omega arith) (omega arith), made.leaves, has),
+          (event_is event (subst (λ k. IsMade k event.link event.body) (sym made.leaves) made) (omega arith) (omega arith) (omega arith) (past-counts h lawful n x event s is), made.leaves, has),
         )
     what_is (Answered id reply) is =
         let made : IsMadeAt n (Answered id reply) = subst (IsMadeAt n) is (stands-made h n x lawful s) in
         let answered : IsAnswered (Answered id reply) =
         subst IsAnswered is
         (all-at (λ (y : Entry). IsAnswered y.what) s.before x s.after
-        (subst (AllByRecursion (λ (y : Entry). IsAnswered y.what)) s.is (grown-answered n (grown_at h n lawful s.node) (taken_formed s.node)))) in
-        (answered, made)
+        (subst (AllByRecursion (λ (y : Entry). IsAnswered y.what)) s.is (grown-answered n (grown_at h n lawful s.node) (taken_carried s.node)))) in
+        ((answered.0, answered.1), (made, answered.2))
 
     entry_is : IsEntry n (length s.before) x
     entry_is =

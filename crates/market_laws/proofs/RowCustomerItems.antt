@@ -27,12 +27,12 @@ use Rattle.market_history.specs.Lawful.{IsLawful}
 use Rattle.market_history.specs.Sent.{got_on, got}
 use Rattle.market_history.proofs.GrowSent.{bodies_on}
 use Rattle.market_laws.specs.Cuts.{steps_at, TookAt, FitsBelow}
-use Rattle.market_laws.specs.Runs.{Member, is_delivery}
+use Rattle.market_laws.specs.Runs.{Member, is_delivery, lines_apart}
 use Rattle.market_laws.proofs.CutLists.{any_of_member}
 use Rattle.market_laws.proofs.CutMade.{steps-run, whole, all-below}
 use Rattle.market_laws.proofs.CutSenders.{sent-bodies-on}
 use Rattle.market_laws.proofs.RowPaymentLinks.{Alone}
-use Rattle.market_laws.proofs.RunsApart.{apart-append, items-once}
+use Rattle.market_laws.proofs.RunsApart.{apart-append, apart-items, items-once}
 use Rattle.market_laws.proofs.RunsShipment.{deliveries-15, shipments-14}
 use Rattle.market_laws.proofs.ViewLinks.{gathered-got}
 
@@ -46,11 +46,11 @@ kept_items (b ∷ bs) = by b (kept_items bs)
     by other rest = rest
 
 -- shipments deliver no item twice on each of their links
-pub items_once-13 : (steps : List Step) → IsRunOf Role.Shipment steps → items_apart [] (flat_map items_in (made_on 13 steps)) ≡ true
-items_once-13 steps run = ap (items_apart []) (sym (ap (flat_map items_in) (deliveries-15 steps run) ∙ kept_items (made_on 13 steps))) ∙ items-once steps run
+pub items_once-13 : (steps : List Step) → IsRunOf Role.Shipment steps → lines_apart [] (flat_map items_in (made_on 13 steps)) ≡ true
+items_once-13 steps run = ap (lines_apart []) (sym (ap (flat_map items_in) (deliveries-15 steps run) ∙ kept_items (made_on 13 steps))) ∙ items-once steps run
 
-pub items_once-14 : (steps : List Step) → IsRunOf Role.Shipment steps → items_apart [] (flat_map items_in (made_on 14 steps)) ≡ true
-items_once-14 steps run = ap (λ bs. items_apart [] (flat_map items_in bs)) (sym (shipments-14 steps run)) ∙ items_once-13 steps run
+pub items_once-14 : (steps : List Step) → IsRunOf Role.Shipment steps → lines_apart [] (flat_map items_in (made_on 14 steps)) ≡ true
+items_once-14 steps run = ap (λ bs. lines_apart [] (flat_map items_in bs)) (sym (shipments-14 steps run)) ∙ items_once-13 steps run
 
 -- the items of a delivery
 abbrev delivery_in : Body → Option (List Item)
@@ -113,7 +113,7 @@ module _ (h : Histories) (s : ℕ) (event : Event) (lawful : IsLawful h) (t : To
         ∙ sym (gathered_items (map (λ (e : Event). e.body) (got (Service k) t.before)))
 
     -- no item of a delivery was delivered before
-    pub apart-before : ((steps : List Step) → IsRunOf Role.Shipment steps → items_apart [] (flat_map items_in (made_on k steps)) ≡ true) → Alone s is_delivery k
+    pub apart-before : ((steps : List Step) → IsRunOf Role.Shipment steps → lines_apart [] (flat_map items_in (made_on k steps)) ≡ true) → Alone s is_delivery k
         → items_apart (items_taken (steps_at s t.before)) items ≡ true
     apart-before once alone =
         let around = made-around shipment_node (omega arith) leaves in
@@ -121,11 +121,11 @@ module _ (h : Histories) (s : ℕ) (event : Event) (lawful : IsLawful h) (t : To
         let more = flat_map items_in around.0 in
         let parts : flat_map items_in (made_on k (steps_at shipment_node (journal_at h shipment_node))) ≡ flat_map items_in first ++ (items ++ more) =
         ap (flat_map items_in) around.1 ∙ flat_map-append items_in first (event.body ∷ around.0) ∙ ap (λ b. flat_map items_in first ++ (items_in b ++ more)) is in
-        let all : items_apart [] (flat_map items_in first ++ (items ++ more)) ≡ true =
-        ap (items_apart []) (sym parts) ∙ once (steps_at shipment_node (journal_at h shipment_node)) (steps-run shipment_node (journal_at h shipment_node)) in
-        let after = and_both (items_apart [] (flat_map items_in first)) (items_apart (flat_map items_in first) (items ++ more)) (sym (apart-append [] (flat_map items_in first) (items ++ more)) ∙ all) in
-        let here = and_both (items_apart (flat_map items_in first) items) (items_apart (flat_map items_in first ++ items) more) (sym (apart-append (flat_map items_in first) items more) ∙ after.1) in
-        ap (λ l. items_apart l items) (items_before alone) ∙ here.0
+        let all : lines_apart [] (flat_map items_in first ++ (items ++ more)) ≡ true =
+        ap (lines_apart []) (sym parts) ∙ once (steps_at shipment_node (journal_at h shipment_node)) (steps-run shipment_node (journal_at h shipment_node)) in
+        let after = and_both (lines_apart [] (flat_map items_in first)) (lines_apart (flat_map items_in first) (items ++ more)) (sym (apart-append [] (flat_map items_in first) (items ++ more)) ∙ all) in
+        let here = and_both (lines_apart (flat_map items_in first) items) (lines_apart (flat_map items_in first ++ items) more) (sym (apart-append (flat_map items_in first) items more) ∙ after.1) in
+        ap (λ l. items_apart l items) (items_before alone) ∙ apart-items (flat_map items_in first) items here.0
 
     -- a checkout of an item of a delivery was shipped before
     pub shipped-before : ((steps : List Step) → IsRunOf Role.Shipment steps → (xs ys : List Body) → made_on k steps ≡ xs ++ body.Delivered items ∷ ys → (item : Item) → Member item items → Member (body.Shipped item.checkout) xs)

@@ -124,9 +124,6 @@ pub count-marked : (c : RequestId) (line : PricedLine) (seller : ℕ) → line.k
 count-marked c line seller own [] = refl
 count-marked c line seller own (l ∷ lines) = by (l.key.seller == seller) refl (count-marked c line seller own lines)
   where
-    as_entry : PricedLine → SellerChange
-    as_entry l = record { checkout = c; line = l; status = status.Invoiced }
-
     differs : (x : ℕ) → line.key.seller ≡ seller → (x == seller) ≡ false → (line.key.seller == x) ≡ false
     differs x own other = grind (arith, nat_tests)
 

@@ -7,3 +7,10 @@ pub mod Pasts
 pub mod Merged
 pub mod Causes
 pub mod Settling
+pub mod Copies
+pub mod CounterexampleValues
+pub mod CounterexamplesRuns
+pub mod CounterexamplesHistories
+pub mod CounterexamplesSettled
+pub mod CounterexamplesOldest
+pub mod CounterexamplesCauses

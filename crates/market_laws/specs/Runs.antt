@@ -1,10 +1,12 @@
 -- What the laws over runs of the services speak of: bodies in a list, kinds of bodies, and what was made.
-use Rattle.std.specs.Prelude.{◌≡◌, ℕ, Bool, true, false, List, [], ◌∷◌, ◌⊎◌, map}
+use Rattle.std.specs.Prelude.{◌≡◌, ℕ, Bool, true, false, ◌&&◌, not, List, [], ◌∷◌, ◌++◌, ◌⊎◌, map}
+use Rattle.std.specs.List.{list_any}
 use Rattle.market_amounts.specs.declared.keys.RequestId.{RequestId}
 use Rattle.market_events.specs.declared.bodies.Body.{Body}
 use Rattle.market_events.specs.declared.bodies.Body.TheVariants as body
 use Rattle.market_events.specs.declared.bodies.Item.{Item}
 use Rattle.market_events.specs.declared.bodies.PricedLine.{PricedLine}
+use Rattle.market_events.specs.Orders.{is_item_of}
 use Rattle.market_events.specs.Requests.{same_id}
 use Rattle.market_events.specs.Services.{is_line_of}
 use Rattle.market_events.specs.Steps.{Step, Sending, taken_bodies, made_in}
@@ -37,6 +39,11 @@ is_payment other = false
 abbrev pub is_delivery : Body → Bool
 is_delivery (body.Delivered items) = true
 is_delivery other = false
+
+-- no item is of the line of another one, or of an earlier one: of its checkout and product, whoever the customer is
+abbrev pub lines_apart : List Item → List Item → Bool
+lines_apart before [] = true
+lines_apart before (i ∷ more) = not (list_any (is_item_of i.checkout i.key) before) && lines_apart (before ++ i ∷ []) more
 
 -- the item was paid for: a payment of its checkout by its customer was taken, and it has a line of its product
 pub record IsPaidFor (steps : List Step) (item : Item) : Type 0 where

@@ -11,11 +11,13 @@ ghost use Rattle.market_events.specs.Requests.{lanes};
 ghost use Rattle.market_history.specs.Once.{is_waiting, kept_by, reply_at};
 ghost use Rattle.market_history.specs.declared.schedule.Step.{Step as Move};
 ghost use Rattle.market_history.specs.Blocks.{services, service_steps};
-ghost use Rattle.market_history.specs.Book.{IsBook};
+ghost use Rattle.market_history.specs.Book.{IsBook, tables_of};
 ghost use Rattle.market_history.specs.Causality.{IsBefore, events_taken};
 ghost use Rattle.market_history.specs.Histories.{Histories, nodes, journal_at, no_histories, IsHistories};
 ghost use Rattle.market_history.specs.Lawful.{IsLawful, IsLawfulAt};
 ghost use Rattle.market_history.specs.Schedule.{play, IsStep, event_at, offered, outcome_of, outcomes, merged};
+ghost use Rattle.market_history.specs.Sent.{IsPrefixOf};
+ghost use Rattle.market_laws.specs.Copies.{ShowsFirst};
 ghost use Rattle.market_laws.specs.Entries.{total_entries};
 ghost use Rattle.market_laws.specs.Fitting.{EachFits, EachInTime};
 ghost use Rattle.market_laws.specs.Grown.{Grown};
@@ -31,15 +33,16 @@ ghost use Rattle.market_events.specs.declared.bodies.PricedLine.{PricedLine};
 ghost use Rattle.market_events.specs.declared.bodies.StockRule.{StockRule};
 ghost use Rattle.market_events.specs.declared.changes.Change.{Change};
 ghost use Rattle.market_events.specs.declared.requests.Ask.TheVariants as asked;
+ghost use Rattle.market_events.specs.Carts.{changes_taken};
 ghost use Rattle.market_events.specs.Copies.{copy_of};
 ghost use Rattle.market_events.specs.Orders.{is_of, order_total, ships};
-ghost use Rattle.market_events.specs.Products.{change_in};
-ghost use Rattle.market_events.specs.Services.{Role, IsRunOf, asks, change_fits, ends, invoices, items_apart, reserves};
+ghost use Rattle.market_events.specs.Products.{change_in, changes_made};
+ghost use Rattle.market_events.specs.Services.{Role, IsRunOf, asks, change_fits, ends, invoices, reserves};
 ghost use Rattle.market_events.specs.Shipments.{items_made};
 ghost use Rattle.market_events.specs.Steps.{Step, taken_bodies, made_on};
-ghost use Rattle.market_events.specs.Stocks.{Reservation, confirms, fails, on_hand, pieces_of, reserved, settles};
+ghost use Rattle.market_events.specs.Stocks.{Reservation, confirms, fails, on_hand, pieces_of, reserved, settles, sold, stocked};
 ghost use Rattle.market_events.specs.WellFormed.{total_of};
-ghost use Rattle.market_laws.specs.Runs.{Member, IsPaidFor, bodies_made, tells, holds_pieces, is_payment, is_delivery};
+ghost use Rattle.market_laws.specs.Runs.{Member, IsPaidFor, bodies_made, tells, holds_pieces, is_payment, is_delivery, lines_apart};
 ghost use Rattle.market_events.specs.declared.events.Offer.TheVariants as offers;
 ghost use Rattle.market_events.specs.declared.links.Link.{Link};
 ghost use Rattle.market_history.specs.declared.schedule.Outcome.TheVariants as outcomes;
@@ -175,8 +178,8 @@ pub fn payment_runs()
 {}
 
 /// After a run of shipments, orders and sellers were told the same, in the same order, and customers the deliveries of it.
-/// Each checkout was paid at most once and shipped as often; no item was delivered twice, and each was shipped before and
-/// paid for.
+/// Each checkout was paid at most once and shipped as often; no line was delivered twice, whoever the customer, and each item
+/// was shipped before and paid for.
 pub fn shipment_runs()
     ensures sellers_told { (steps : List Step) → IsRunOf Role.Shipment steps → made_on 13 steps ≡ made_on 14 steps }
     ensures customers_told { (steps : List Step) → IsRunOf Role.Shipment steps → made_on 15 steps ≡ filter is_delivery (made_on 13 steps) }
@@ -185,7 +188,7 @@ pub fn shipment_runs()
     ensures paid_once { (steps : List Step) → IsRunOf Role.Shipment steps → (id : RequestId) → count_by (confirms id) (taken_bodies steps) ≤ 1 }
     ensures shipped_for { (steps : List Step) → IsRunOf Role.Shipment steps → (checkout : RequestId) → Member (bodies.Shipped checkout) (made_on 13 steps)
         → (customer : ℕ) × (lines : List PricedLine) × (total : ℕ) × Member (bodies.Confirmed checkout customer lines total) (taken_bodies steps) }
-    ensures delivered_once { (steps : List Step) → IsRunOf Role.Shipment steps → items_apart [] (items_made steps) ≡ true }
+    ensures delivered_once { (steps : List Step) → IsRunOf Role.Shipment steps → lines_apart [] (items_made steps) ≡ true }
     ensures shipped_before { (steps : List Step) → IsRunOf Role.Shipment steps → (before after : List Body) (items : List Item)
         → made_on 13 steps ≡ before ++ bodies.Delivered items ∷ after → (item : Item) → Member item items → Member (bodies.Shipped item.checkout) before }
     ensures paid_for { (steps : List Step) → IsRunOf Role.Shipment steps → (items : List Item) → Member (bodies.Delivered items) (made_on 13 steps)
@@ -243,13 +246,31 @@ pub fn events_have_causes()
 /// In lawful histories the pieces of a product that stock has reserved are those of the listed reservations: those that stock
 /// sent to orders, and for whose checkout it took neither payment nor failure (`sum`). Each of these waits for just one event: of
 /// its checkout one is outstanding, from stock to orders, from orders to payments, or from payments to stock (`waits`); and as
-/// many are of any checkout as its listed reservations (`listed`). No more pieces are reserved than are on hand (`covered`).
+/// many are of any checkout as its listed reservations (`listed`). After a run of stock no more pieces are reserved than are on hand
+/// (`covered`), and with these no more were sold than were stocked (`within`).
 pub fn reserved_is_listed()
     ensures sum { (h : Histories) (key : ProductKey) → IsLawful h
         → reserved (service_steps h Role.Stock) key ≡ sum_by (λ (r : Reservation). pieces_of key r.lines) (listed_reservations h) }
     ensures waits { (h : Histories) → IsLawful h → AllByRecursion (λ (r : Reservation). on_its_way h r.checkout ≡ 1) (listed_reservations h) }
     ensures listed { (h : Histories) (c : RequestId) → IsLawful h → on_its_way h c ≡ count_by (is_of c) (listed_reservations h) }
     ensures covered { (steps : List Step) → IsRunOf Role.Stock steps → (key : ProductKey) → reserved steps key ≤ on_hand steps key }
+    ensures within { (steps : List Step) → IsRunOf Role.Stock steps → (key : ProductKey)
+        → sold steps key + reserved steps key ≤ stocked steps key }
+{}
+
+/// In lawful histories the copies of the products are at every moment those of some first changes: the changes that
+/// the cart took, and those that stock took, are a front of those that the product service made, in the same order
+/// (`cart_took`, `stock_took`). So what their tables show of every product is what some first of its changes leave
+/// (`cart_shows`, `stock_shows`).
+pub fn copies_are_of_a_front()
+    ensures cart_took { (h : Histories) → IsLawful h
+        → IsPrefixOf (changes_taken (service_steps h Role.Cart)) (changes_made (service_steps h Role.Product)) }
+    ensures stock_took { (h : Histories) → IsLawful h
+        → IsPrefixOf (changes_taken (service_steps h Role.Stock)) (changes_made (service_steps h Role.Product)) }
+    ensures cart_shows { (h : Histories) → IsLawful h
+        → ShowsFirst (tables_of h).cart_copy (changes_made (service_steps h Role.Product)) }
+    ensures stock_shows { (h : Histories) → IsLawful h
+        → ShowsFirst (tables_of h).stock_copy (changes_made (service_steps h Role.Product)) }
 {}
 
 /// In lawful histories that are settled no lane waits, and each request that a lane keeps has its reply.

@@ -5,7 +5,8 @@ ghost use Rattle.market_events.specs.declared.links.Link.TheVariants.{Service};
 
 use crate::receiver::Receiver;
 use crate::sender::Sender;
-use market_events::{Body, Counts, Event, Link, Node, Offer, Request, read_request};
+use market_amounts::{ProductKey, RequestId};
+use market_events::{Ask, Body, Counts, Event, Link, Node, Offer, Request};
 use std::process::Abort;
 use std::test::Fail;
 
@@ -25,10 +26,24 @@ fn event(number: u32, needed: u32, request: &Request) -> Event
     }
 }
 
+// A request to view a product.
+fn view() -> Request {
+    Request {
+        id: RequestId {
+            caller: 7,
+            number: 4,
+        },
+        ask: Ask::View(ProductKey {
+            seller: 5,
+            product: 10,
+        }),
+    }
+}
+
 #[test]
 fn offers_of_a_receiver(rt: HostRuntime) -> Result<(), Fail> {
     let stock = Node::try_new(2).ok_or("node")?;
-    let request = read_request(b"7.4 view 5 10")?;
+    let request = view();
     let none = Counts::zero();
     let mut one = Counts::zero();
     one.raise(1, 1);
@@ -82,7 +97,7 @@ fn expect_window(rt: &impl Abort, sender: &Sender, first: u32, last: u32) {
 
 #[test]
 fn window_of_a_sender(rt: HostRuntime) -> Result<(), Fail> {
-    let request = read_request(b"7.4 view 5 10")?;
+    let request = view();
     let mut sender = Sender::new(rt.alloc(), Link::Service(2));
     for number in 1..10u32 {
         sender.reserve()?;

@@ -17,6 +17,7 @@ use Rattle.market_events.specs.Requests.{same_id}
 use Rattle.market_history.specs.declared.schedule.Give.TheVariants as give
 use Rattle.market_events.specs.declared.events.What.{What}
 use Rattle.market_history.specs.Blocks.{Out, with_what, with_out}
+use Rattle.market_history.specs.Journals.{AsksOwn}
 use Rattle.market_history.specs.Once.{give_of}
 use Rattle.market_history.specs.Stamps.{clock_before, stamp_of}
 use Rattle.market_history.proofs.CoreGrow.{length-with_what, clock-with_what}
@@ -86,6 +87,12 @@ pub tells : (l : Link) (b : Body) → IsLink l → 8 ≤ receiver_of l → carri
 tells (link.Told service lane) b is into can = told_body service lane b can
 tells (link.Asked lane service) b is into can = absurd (omega arith)
 tells (link.Service n) b is into can = let below = service_below n in absurd (omega arith)
+
+-- and asks nothing
+pub own-into : (l : Link) (b : Body) → IsLink l → 8 ≤ receiver_of l → AsksOwn l b
+own-into (link.Told service lane) b is into = tt
+own-into (link.Asked lane service) b is into = absurd (omega arith)
+own-into (link.Service n) b is into = tt
 
 -- an event of a link into a lane tells it a reply
 pub is_told-into : (l : Link) (b : Body) → IsLink l → 8 ≤ receiver_of l → carries l b ≡ true → is_told b ≡ true

@@ -13,4 +13,3 @@ pub mod EventLaws
 pub mod MakingLaws
 pub mod RecordLaws
 pub mod ReserveLaws
-pub mod TestLaws

@@ -13,14 +13,14 @@ use Rattle.market_events.specs.declared.links.Link.{Link}
 use Rattle.market_events.specs.declared.replies.Reply.{Reply}
 use Rattle.market_events.specs.declared.requests.Request.{Request}
 use Rattle.market_events.specs.Carried.{carries}
-use Rattle.market_events.specs.Counts.{IsMergeOf}
+use Rattle.market_events.specs.Counts.{AreCounts, IsMergeOf}
 use Rattle.market_events.specs.Links.{IsLink, lane_node, sender_of, receiver_of, same_link}
 use Rattle.market_events.specs.Offers.{taken_on, counts_of, offer_by, offer_of}
 use Rattle.market_events.specs.Requests.{lane_of}
 use Rattle.market_events.specs.WellFormed.{IsBody, IsReply, IsRequest, IsRequestId, IsWellFormedEvent}
 use Rattle.market_history.specs.Blocks.{with_what, next_event}
 use Rattle.market_history.specs.Causality.{events_taken, past_of}
-use Rattle.market_history.specs.Journals.{AsksOwn, IsEvent, IsEntry, IsLane}
+use Rattle.market_history.specs.Journals.{AsksOwn, CanBeKept, IsEntry, IsLane}
 use Rattle.market_history.specs.Sent.{sent}
 use Rattle.market_history.specs.Stamps.{clock_before, stamp_of}
 use Rattle.market_history.proofs.CoreEntries.{length-events_taken, length-sent}
@@ -95,14 +95,32 @@ at_most-push xs ys x n is most =
 
 -- the entries may stand at the end
 
-pub taken_entry : (node : ℕ) (xs : List Entry) (clock : ℕ) (event : Event) → node ≤ 23 → length xs < 4_294_967_295 → clock ≤ 2 ^ 62 → IsEvent event → IsWellFormedEvent event → receiver_of event.link ≡ node → IsEntry node (length xs) (entry_at clock (Taken event))
-taken_entry node xs clock event high few low is formed into =
-    record { formed = record { what = formed }; node_high = high; place_high = few; clock_high = low; what = (is, into) }
+pub taken_entry : (node : ℕ) (xs : List Entry) (clock : ℕ) (event : Event) → node ≤ 23 → length xs < 4_294_967_295 → clock ≤ 2 ^ 62 → event.clock ≤ 2 ^ 62 → event.number < 2 ^ 32 → AreCounts event.past
+    → IsLink event.link → carries event.link event.body ≡ true → AsksOwn event.link event.body → IsWellFormedEvent event → receiver_of event.link ≡ node → offer_of node (events_taken xs) event ≡ offer.Take
+    → IsEntry node (length xs) (entry_at clock (Taken event))
+taken_entry node xs clock event high few low sent short past is carried own formed into due = record {
+  formed = record { what = formed };
+  node_high = high;
+  place_high = few;
+  clock_high = low;
+  what = (
+    record {
+      link = is;
+      number_low = let next = next_of_take (taken_on (events_taken xs) event.link) node (counts_of (events_taken xs)) event due in omega arith;
+      number_high = short;
+      clock_high = sent;
+      past = past;
+      body = carried;
+      own = own;
+    },
+    into,
+  );
+}
 
 pub made_entry : (node : ℕ) (xs : List Entry) (clock number : ℕ) (link : Link) (past : List ℕ) (b : Body) → node ≤ 23 → length xs < 4_294_967_295 → clock ≤ 2 ^ 62 → number ≡ length (sent link xs) + 1
-    → IsLink link → sender_of link ≡ node → carries link b ≡ true → IsBody b → AsksOwn link b
+    → AreCounts past → IsLink link → sender_of link ≡ node → carries link b ≡ true → IsBody b → AsksOwn link b
     → IsEntry node (length xs) (entry_at clock (Made (record { link = link; number = number; clock = clock; past = past; body = b })))
-made_entry node xs clock number link past b high few low next is from carried formed own = record {
+made_entry node xs clock number link past b high few low next counts is from carried formed own = record {
   formed = record { what = record { body = formed } };
   node_high = high;
   place_high = few;
@@ -113,6 +131,7 @@ made_entry node xs clock number link past b high few low next is from carried fo
       number_low = omega arith;
       number_high = let most = length-sent link xs in omega arith;
       clock_high = low;
+      past = counts;
       body = carried;
       own = own;
     },
@@ -125,9 +144,9 @@ pub given_entry : (node : ℕ) (xs : List Entry) (clock : ℕ) (r : Request) →
 given_entry node xs clock r high few low formed own =
     record { formed = record { what = formed }; node_high = high; place_high = few; clock_high = low; what = ((omega arith, high), own) }
 
-pub answered_entry : (node : ℕ) (xs : List Entry) (clock : ℕ) (id : RequestId) (reply : Reply) → node ≤ 23 → length xs < 4_294_967_295 → clock ≤ 2 ^ 62 → IsRequestId id → IsReply reply → IsLane node → IsEntry node (length xs) (entry_at clock (Answered id reply))
-answered_entry node xs clock id reply high few low formed said lane =
-    record { formed = record { what = (formed, said) }; node_high = high; place_high = few; clock_high = low; what = lane }
+pub answered_entry : (node : ℕ) (xs : List Entry) (clock : ℕ) (id : RequestId) (reply : Reply) → node ≤ 23 → length xs < 4_294_967_295 → clock ≤ 2 ^ 62 → IsRequestId id → IsReply reply → CanBeKept reply → IsLane node → IsEntry node (length xs) (entry_at clock (Answered id reply))
+answered_entry node xs clock id reply high few low formed said kept lane =
+    record { formed = record { what = (formed, said) }; node_high = high; place_high = few; clock_high = low; what = (lane, kept) }
 
 -- what is noted then
 

@@ -5,6 +5,6 @@ pub mod Records
 pub mod Recorders
 pub mod Cores
 pub mod Keeping
+pub mod Arriving
 pub mod ServiceCores
 pub mod LaneCores
-pub mod Testing

@@ -1,16 +1,16 @@
 //! The core of a lane.
 
-ghost use Rattle.std.specs.Prelude.{◌≡◌, ◌≢◌, ◌+◌, ◌-◌, ◌^◌, ◌<◌, ◌≤◌, max, drop, true, [], length, nat_lt, is_some, IfOk, OnOk, OnErr};
+ghost use Rattle.std.specs.Prelude.{◌≡◌, ◌≢◌, ◌+◌, ◌-◌, ◌^◌, ◌<◌, ◌≤◌, drop, true, [], length, nat_lt, is_some, IfOk, OnOk, OnErr};
 ghost use Rattle.std.specs.Option.{option_copied};
 ghost use Rattle.market_events.specs.Links.{IsLink, lane_node, sender_of, receiver_of as receiver_by_link, service_by_ask};
 ghost use Rattle.market_events.specs.Offers.{offer_of, taken_on};
 ghost use Rattle.market_events.specs.Requests.{lane_of};
-ghost use Rattle.market_events.specs.WellFormed.{IsRequest, IsWellFormedEvent};
+ghost use Rattle.market_events.specs.WellFormed.{IsRequest};
 ghost use Rattle.market_history.specs.Blocks.{grow, Arrival};
 ghost use Rattle.market_history.specs.Causality.{events_taken};
-ghost use Rattle.market_history.specs.Journals.{IsEvent};
 ghost use Rattle.market_history.specs.Once.{give_of, give_by, is_waiting, reply_of, requests_given, with_id};
 ghost use Rattle.market_history.specs.Stamps.{clock_before};
+ghost use Rattle.market_node.specs.Arriving.{CanArrive};
 ghost use Rattle.market_node.specs.Cores.{with_entries};
 ghost use Rattle.market_node.specs.Keeping.{IsAwaitedBy};
 ghost use Rattle.market_node.specs.Notes.{event_with};
@@ -139,9 +139,10 @@ impl LaneCore {
         )
     }
 
-    /// Gives the lane a request. It requires a well-formed request of this lane, fewer than 2^31 entries, and a last
-    /// clock of at most 2^62 - 8. Where it is `Asked`, the lane keeps the request and asks its service; in every other
-    /// case, and on want of memory, the lane is as before.
+    /// Gives the lane a request. It requires a well-formed request of this lane, fewer than 2^31 entries, and
+    /// a last clock of at most 2^62 - 8. Where it is `Asked`, the lane keeps the request and asks its
+    /// service; in every other case, and on want of memory, the lane is as before. Memory is taken, and can
+    /// be wanting, only where it is `Asked`.
     pub fn give(&mut self, request: &Request) -> Result<Give, AllocError>
         requires formed { IsRequest request.now }
         requires own { lane_node (lane_of request.now.id) ≡ self.old.node }
@@ -152,6 +153,7 @@ impl LaneCore {
             → self.new ≡ with_entries self.old (grow self.old.node self.old.entries (Arrival.Gives request.now))) }
         ensures other { IfOk result (λ give. give ≢ Give.Asked → self.new ≡ self.old) }
         ensures err { OnErr result (self.new ≡ self.old) }
+        ensures fails_at_asked { OnErr result (give_of self.old.entries request.now ≡ Give.Asked) }
     {
         let give = self.judge(request);
         if give != Give::Asked {
@@ -167,22 +169,23 @@ impl LaneCore {
         Ok(give)
     }
 
-    /// Takes an event that is offered to the lane. It requires an event of a link into the lane, with its numbers in
-    /// their ranges and a body that the link can carry, fewer than 2^31 entries, clocks of at most 2^62 - 8, and, where
-    /// the event is taken, the reply to a request that the lane keeps and that has none yet. Where it is not taken, and
-    /// on want of memory, the lane is as before.
+    /// Takes an event that is offered to the lane. It requires a well-formed event of a link into the lane
+    /// that can carry its body, fewer than 2^31 entries, clocks of at most 2^62 - 8, and, where the event is
+    /// taken, the reply to a request that the lane keeps and that has none yet. Where it is not taken, and on
+    /// want of memory, the lane is as before. Memory is taken, and can be wanting, only where the event is
+    /// taken.
     pub fn take(&mut self, event: &Event) -> Result<Offer, AllocError>
-        requires event { IsEvent event.now }
-        requires formed { IsWellFormedEvent event.now }
-        requires into { receiver_by_link event.now.link ≡ self.old.node }
-        requires few { length self.old.entries < 2 ^ 31 }
-        requires clock { max (clock_before self.old.entries) event.now.clock ≤ 2 ^ 62 - 8 }
-        requires awaited { offer_of self.old.node (events_taken self.old.entries) event.now ≡ Offer.Take → IsAwaitedBy self.old.entries event.now.body }
-        ensures offers { IfOk result (λ offer. offer ≡ offer_of self.old.node (events_taken self.old.entries) event.now) }
+        requires arrives { CanArrive self.old.node self.old.entries event.now }
+        requires awaited { offer_of self.old.node (events_taken self.old.entries) event.now ≡ Offer.Take
+            → IsAwaitedBy self.old.entries event.now.body }
+        ensures offers { IfOk result (λ offer. offer
+            ≡ offer_of self.old.node (events_taken self.old.entries) event.now) }
         ensures taken { IfOk result (λ offer. offer ≡ Offer.Take
             → self.new ≡ with_entries self.old (grow self.old.node self.old.entries (Arrival.Takes event.now))) }
         ensures other { IfOk result (λ offer. offer ≢ Offer.Take → self.new ≡ self.old) }
         ensures err { OnErr result (self.new ≡ self.old) }
+        ensures fails_at_take { OnErr result (offer_of self.old.node (events_taken self.old.entries) event.now
+            ≡ Offer.Take) }
     {
         let offer = self.recorder.offer(event);
         if offer != Offer::Take {

@@ -14,8 +14,6 @@ mod received;
 mod recorder;
 mod slots;
 mod table;
-#[cfg(test)]
-mod tests;
 mod writing;
 
 pub use lane_core::{LaneCore, MOST_KEPT};

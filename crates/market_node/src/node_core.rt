@@ -1,16 +1,15 @@
 //! The core of a service's node.
 
-ghost use Rattle.std.specs.Prelude.{◌≡◌, ◌≢◌, ◌-◌, ◌^◌, ◌<◌, ◌≤◌, max, drop, true, [], length, IfOk, OnErr};
+ghost use Rattle.std.specs.Prelude.{◌≡◌, ◌≢◌, drop, true, [], length, IfOk, OnErr};
 ghost use Rattle.std.specs.Option.{option_copied};
 ghost use Rattle.market_events.specs.Cells.{cells_of};
 ghost use Rattle.market_events.specs.Links.{IsLink, sender_of, receiver_of};
 ghost use Rattle.market_events.specs.Offers.{offer_of, taken_on};
 ghost use Rattle.market_events.specs.Services.{fits, node_of};
-ghost use Rattle.market_events.specs.WellFormed.{IsWellFormedEvent};
 ghost use Rattle.market_history.specs.Blocks.{grow, inputs_of, steps_of, Arrival};
 ghost use Rattle.market_history.specs.Causality.{events_taken};
-ghost use Rattle.market_history.specs.Journals.{IsEvent};
-ghost use Rattle.market_history.specs.Stamps.{clock_before};
+ghost use Rattle.market_history.specs.Journals.{AsksOwn};
+ghost use Rattle.market_node.specs.Arriving.{CanArrive};
 ghost use Rattle.market_node.specs.Cores.{with_entries};
 ghost use Rattle.market_node.specs.Notes.{event_with};
 
@@ -101,23 +100,25 @@ impl<S: Service> NodeCore<S> {
         self.recorder.taken(link)
     }
 
-    /// Takes an event that is offered to the node. It requires an event of a link into the node, with its numbers in
-    /// their ranges and a body that the link can carry, fewer than 2^31 entries, clocks of at most 2^62 - 8, and, where
-    /// the event is taken, a body that fits the steps before it. Where it is taken, the journal grows by it and by what
-    /// the service makes of it. Where it is not taken, and on want of memory, the core is as before.
+    /// Takes an event that is offered to the node. It requires a well-formed event of a link into the node
+    /// that can carry its body, fewer than 2^31 entries, clocks of at most 2^62 - 8, and, where the event is
+    /// taken, a body that fits the steps before it, and a request of the lane that asks it. Where it is
+    /// taken, the journal grows by it and by what the service makes of it. Where it is not taken, and on want
+    /// of memory, the core is as before. Memory is taken, and can be wanting, only where the event is taken.
     pub fn take(&mut self, event: &Event) -> Result<Offer, AllocError>
-        requires event { IsEvent event.now }
-        requires formed { IsWellFormedEvent event.now }
-        requires into { receiver_of event.now.link ≡ self.old.node }
-        requires few { length self.old.entries < 2 ^ 31 }
-        requires clock { max (clock_before self.old.entries) event.now.clock ≤ 2 ^ 62 - 8 }
+        requires arrives { CanArrive self.old.node self.old.entries event.now }
+        requires own { offer_of self.old.node (events_taken self.old.entries) event.now ≡ Offer.Take
+            → AsksOwn event.now.link event.now.body }
         requires fits { offer_of self.old.node (events_taken self.old.entries) event.now ≡ Offer.Take
             → fits S.role (steps_of S.role (inputs_of self.old.entries)) event.now.link event.now.body ≡ true }
-        ensures offers { IfOk result (λ offer. offer ≡ offer_of self.old.node (events_taken self.old.entries) event.now) }
+        ensures offers { IfOk result (λ offer. offer
+            ≡ offer_of self.old.node (events_taken self.old.entries) event.now) }
         ensures taken { IfOk result (λ offer. offer ≡ Offer.Take
             → self.new ≡ with_entries self.old (grow self.old.node self.old.entries (Arrival.Takes event.now))) }
         ensures other { IfOk result (λ offer. offer ≢ Offer.Take → self.new ≡ self.old) }
         ensures err { OnErr result (self.new ≡ self.old) }
+        ensures fails_at_take { OnErr result (offer_of self.old.node (events_taken self.old.entries) event.now
+            ≡ Offer.Take) }
     {
         let offer = self.recorder.offer(event);
         if offer != Offer::Take {

@@ -10,7 +10,7 @@ ghost use Rattle.market_events.specs.Requests.{lane_of};
 ghost use Rattle.market_events.specs.WellFormed.{IsBody, IsReply, IsRequest, IsRequestId, IsWellFormedEvent};
 ghost use Rattle.market_history.specs.Blocks.{with_what, with_out, Out};
 ghost use Rattle.market_history.specs.Causality.{events_taken};
-ghost use Rattle.market_history.specs.Journals.{AsksOwn, IsEvent, IsLane};
+ghost use Rattle.market_history.specs.Journals.{AsksOwn, CanBeKept, IsLane};
 ghost use Rattle.market_history.specs.Stamps.{clock_before};
 ghost use Rattle.market_node.specs.Notes.{event_with};
 
@@ -125,7 +125,9 @@ impl Recorder {
 
     // Adds that the node took an event that was due there. It requires room, and takes no memory.
     pub fn take(&mut self, event: Event)
-        requires event { IsEvent event }
+        requires link { IsLink event.link }
+        requires carried { carries event.link event.body ≡ true }
+        requires own { AsksOwn event.link event.body }
         requires formed { IsWellFormedEvent event }
         requires into { receiver_of event.link ≡ self.old.node }
         requires due { offer_of self.old.node (events_taken self.old.entries) event ≡ Offer.Take }
@@ -202,6 +204,7 @@ impl Recorder {
     pub fn answer(&mut self, id: RequestId, reply: Reply)
         requires id { IsRequestId id }
         requires reply { IsReply reply }
+        requires kept { CanBeKept reply }
         requires lane { IsLane self.old.node }
         requires room { 0 < self.old.room }
         requires few { length self.old.entries < 4_294_967_295 }

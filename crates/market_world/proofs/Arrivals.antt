@@ -117,11 +117,15 @@ module _ (h : Histories) (lawful : IsLawful h) where
       let made = made_there link number on event found in
       let lt : receiver_of event.link < nodes = receiver-small event.link (subst IsLink (sym made.on) on) in
       record {
-        event_is = made.event_is;
-        formed = made.formed;
-        into = refl;
-        few = omega (arith, length-few h lawful (receiver_of event.link) lt, few h lawful);
-        clock = omega (arith, before_few (receiver_of event.link) lt, made.clock, few h lawful);
+        arrives = record {
+          link = made.event_is.link;
+          into = refl;
+          carried = made.event_is.body;
+          formed = made.formed;
+          few = omega (arith, length-few h lawful (receiver_of event.link) lt, few h lawful);
+          clock = omega (arith, before_few (receiver_of event.link) lt, made.clock, few h lawful);
+        };
+        own = made.event_is.own;
         fitting = λ service take. fits_there link number on event found take service;
         awaited = λ take. awaited_there link number on event found take;
       }

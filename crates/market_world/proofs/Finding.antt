@@ -58,13 +58,6 @@ settled-more h n link on is below none = one_more (λ l. outstanding h l ≡ [])
 pub settled-all : (h : Histories) → AreSettledBelow h links_many → IsSettled h
 settled-all h below = λ link on. below link on (index_small link on)
 
-pub not-settled : (h : Histories) (link : Link) (event : Event) → IsLink link → first_of h link ≡ Some event → IsSettled h → ⊥
-not-settled h link event on first settled =
-    let none = settled link on in
-    let some = some_of (outstanding h link) event first in
-    let no : ⊥ = cc in
-    no
-
 module _ (h : Histories) (lawful : IsLawful h) where
   -- the event after those that were taken is the first that waits
   pub first-with : (link : Link) (count : ℕ) → IsLink link → count ≡ taken_on (events_taken (journal_at h (receiver_of link))) link → event_with link (count + 1) (journal_at h (sender_of link)) ≡ first_of h link
@@ -162,6 +155,3 @@ module _ (h : Histories) (lawful : IsLawful h) where
     first = o.first;
     least = λ other on. o.least other on (index_small other on);
   }
-
-  pub oldest-waits : (event : Event) → IsOldestBelow h links_many event → IsSettled h → ⊥
-  oldest-waits event o settled = let none = settled event.link o.on in let some = o.first in let no : ⊥ = cc in no

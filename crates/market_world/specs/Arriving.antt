@@ -1,32 +1,30 @@
 -- What the core of a node asks of what arrives there, and the journal that this leaves.
-use Rattle.std.specs.Prelude.{◌≡◌, ℕ, ◌-◌, ◌^◌, ◌<◌, ◌≤◌, max, true, Result, Ok, Err, List, length}
+use Rattle.std.specs.Prelude.{◌≡◌, ℕ, ◌-◌, ◌^◌, ◌<◌, ◌≤◌, true, Result, Ok, Err, List, length}
 use Rattle.std.specs.declared.alloc.AllocError.{AllocError}
 use Rattle.market_events.specs.declared.events.Entry.{Entry}
 use Rattle.market_events.specs.declared.events.Event.{Event}
 use Rattle.market_events.specs.declared.events.Offer.{Offer}
 use Rattle.market_events.specs.declared.events.Offer.TheVariants as offer
 use Rattle.market_events.specs.declared.requests.Request.{Request}
-use Rattle.market_events.specs.Links.{lane_node, receiver_of}
+use Rattle.market_events.specs.Links.{lane_node}
 use Rattle.market_events.specs.Offers.{offer_of}
 use Rattle.market_events.specs.Requests.{lane_of}
 use Rattle.market_events.specs.Services.{fits}
-use Rattle.market_events.specs.WellFormed.{IsRequest, IsWellFormedEvent}
+use Rattle.market_events.specs.WellFormed.{IsRequest}
 use Rattle.market_history.specs.declared.schedule.Give.{Give}
 use Rattle.market_history.specs.declared.schedule.Give.TheVariants as give
 use Rattle.market_history.specs.Blocks.{Arrival, grow, inputs_of, role_at, services, steps_of}
 use Rattle.market_history.specs.Causality.{events_taken}
-use Rattle.market_history.specs.Journals.{IsEvent}
+use Rattle.market_history.specs.Journals.{AsksOwn}
 use Rattle.market_history.specs.Stamps.{clock_before}
+use Rattle.market_node.specs.Arriving.{CanArrive}
 use Rattle.market_node.specs.Keeping.{IsAwaitedBy}
 
--- the event can be offered to the node with this journal: it leads there, its numbers and those of the journal are in their
--- ranges, and where it is taken it fits a service, and is awaited by a lane
+-- the event can be offered to the node with this journal: the node's core can look at it, a request is asked
+-- by its own lane, and where it is taken it fits a service, and is awaited by a lane
 pub record CanOffer (n : ℕ) (entries : List Entry) (event : Event) : Type 0 where
-  pub event_is : IsEvent event
-  pub formed : IsWellFormedEvent event
-  pub into : receiver_of event.link ≡ n
-  pub few : length entries < 2 ^ 31
-  pub clock : max (clock_before entries) event.clock ≤ 2 ^ 62 - 8
+  pub arrives : CanArrive n entries event
+  pub own : AsksOwn event.link event.body
   pub fitting : n < services → offer_of n (events_taken entries) event ≡ offer.Take → fits (role_at n) (steps_of (role_at n) (inputs_of entries)) event.link event.body ≡ true
   pub awaited : offer_of n (events_taken entries) event ≡ offer.Take → IsAwaitedBy entries event.body
 

@@ -9,12 +9,9 @@ mod links;
 mod outstanding;
 mod places;
 mod schedule;
-#[cfg(test)]
-mod table_tests;
-#[cfg(test)]
-mod tests;
 mod world;
 
+pub use links::{LINKS, link_at};
 pub use outstanding::{oldest, settled};
 pub use schedule::run_schedule;
 pub use world::World;

@@ -6,7 +6,7 @@ ghost use Rattle.market_world.specs.Waiting.{links_many};
 
 use market_events::Link;
 
-// How many links there are.
+/// How many links there are: 272.
 pub const LINKS: u32 = FIRST_TOLD + LANE_LINKS;
 
 const LANE_LINKS: u32 = 128;
@@ -18,7 +18,7 @@ const FIRST_TOLD: u32 = FIRST_ASKED + LANE_LINKS;
 
 const SERVICES: u32 = 8;
 
-// The link with this index.
+/// The link with this index, 0 to 271.
 pub fn link_at(index: u32) -> Link
     requires { index < links_many }
     ensures link { IsLink result }

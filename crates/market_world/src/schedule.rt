@@ -14,7 +14,8 @@ use std::alloc::AllocError;
 /// their numbers in their ranges. On want of memory some first steps were played.
 ///
 /// Whatever the steps are, the histories that they leave are sound: lawful, with the pieces that stock has reserved those of
-/// checkouts under way. And where no event is outstanding every checkout is whole or undone, and every table is the sum of
+/// checkouts under way and no more sold than stocked, with copies that show some first changes of the products, and with no
+/// event taken before one that is before it. And where no event is outstanding every checkout is whole or undone, and every table is the sum of
 /// what was accepted.
 pub fn run_schedule(world: &mut World, steps: &[Step]) -> Result<Vec<Outcome>, AllocError>
     requires { AllByRecursion IsPlayable steps.now }

@@ -3,4 +3,3 @@ pub mod Deliveries
 pub mod Steps
 pub mod Joining
 pub mod OrderCells
-pub mod Testing

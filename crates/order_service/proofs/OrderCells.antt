@@ -23,7 +23,7 @@ use Rattle.market_events.specs.Formed.{id_formed, request_id_formed, lines_forme
 use Rattle.market_events.specs.Orders.{checkouts_taken, is_of, order_status, order_total, open_lines}
 use Rattle.market_events.specs.Requests.{same_id}
 use Rattle.market_events.specs.Services.{Role, Follows, IsRunOf, fits}
-use Rattle.market_events.specs.Standing.{Stands, CanTake, with_step, step_of, same_name, is_named, has_cell, value_of, most_by_ask, most_touched}
+use Rattle.market_events.specs.Standing.{Stands, CanTake, with_step, step_of, same_name, is_named, has_cell, value_of, may_change, most_by_ask, most_touched}
 use Rattle.market_events.specs.Steps.{Step}
 use Rattle.market_events.specs.Stocks.{Reservation, reservation_in}
 use Rattle.market_events.specs.Texts.{status_text, id_text}
@@ -31,8 +31,8 @@ use Rattle.market_events.specs.WellFormed.{IsRequestId, id_max}
 use Rattle.market_events.proofs.BoundLaws.{items_formed-most}
 use Rattle.market_events.proofs.CellLaws.{value_at, same_name-same}
 use Rattle.market_events.proofs.KeyLaws.{eq_by_id_cmp}
-use Rattle.market_events.proofs.KeyedCells.{IsNaming, HasAll, IsFilled, is_among, id_naming, joined_filled, at_name, at_none, alike, cells_by-each, named_list, last_filled, entries_told, value_told, none_told, covers_told}
-use Rattle.market_events.proofs.ListLaws.{and_both, all-any, count-none}
+use Rattle.market_events.proofs.KeyedCells.{IsNaming, HasAll, IsFilled, is_among, id_naming, joined_filled, at_name, at_none, alike, cells_by-each, named_list, last_filled, entries_told, value_told, none_told, covers_told, none_some}
+use Rattle.market_events.proofs.ListLaws.{and_both, all-any}
 use Rattle.market_events.proofs.OrderLaws.{checkouts_taken-push}
 use Rattle.market_events.proofs.OrderRuns.{is_item_for}
 use Rattle.market_events.proofs.SameLaws.{same_id-true, same_id-swap}
@@ -41,9 +41,9 @@ use Rattle.market_events.proofs.StatusLaws.{has_order-by_status}
 use Rattle.market_events.proofs.StepLaws.{Parts, fits-parts, run_has}
 use Rattle.order_service.specs.declared.order.Order.{Order}
 use Rattle.order_service.specs.Cells.{name_by, text_by, texts_in, table_cells, checkout_of}
-use Rattle.order_service.specs.Kept.{order_at, with_delivered, order_after, order_by, IsKept}
+use Rattle.order_service.specs.Kept.{order_at, with_delivered, order_after, order_customer, order_by, IsKept}
 use Rattle.order_service.proofs.Steps.{order_of, order_by-push}
-use Rattle.order_service.proofs.Sums.{with_delivered-zero}
+use Rattle.order_service.proofs.Sums.{with_delivered-zero, item_count-none}
 
 -- checkouts have names of their own
 naming : IsNaming same_id name_by IsRequestId
@@ -78,21 +78,21 @@ order_cells-by steps =
     cells_by-each name_by (texts_by steps)
     (λ (r : Reservation). with_value (codes "order") (id_text r.checkout) (order_text (order_total steps r.checkout) (length (open_lines steps r.checkout)) (order_status steps r.checkout)))
     (λ (r : Reservation). Some r.checkout)
-    (λ r. ap (with_value (codes "order") (id_text r.checkout)) (said (order_status steps r.checkout) (order_total steps r.checkout) (length (open_lines steps r.checkout))))
+    (λ r. ap (with_value (codes "order") (id_text r.checkout)) (said (order_status steps r.checkout) (order_customer steps r.checkout) (order_total steps r.checkout) (length (open_lines steps r.checkout))))
     (checkouts_taken steps)
   where
-    said : (o : Option OrderStatus) (total left : ℕ) → order_text total left o ≡ text_by (order_of o total left)
-    said None total left = refl
-    said (Some st) total left = refl
+    said : (o : Option OrderStatus) (customer total left : ℕ) → order_text total left o ≡ text_by (order_of o customer total left)
+    said None customer total left = refl
+    said (Some st) customer total left = refl
 
 -- a checkout with a text was confirmed
 has_text : (steps : List Step) (id : RequestId) → is_some (texts_by steps id) ≡ true → list_any (is_of id) (checkouts_taken steps) ≡ true
 has_text steps id some =
-    has_order-by_status steps id ∙ sym (same (order_status steps id) (order_total steps id) (length (open_lines steps id))) ∙ some
+    has_order-by_status steps id ∙ sym (same (order_status steps id) (order_customer steps id) (order_total steps id) (length (open_lines steps id))) ∙ some
   where
-    same : (o : Option OrderStatus) (total left : ℕ) → is_some (text_by (order_of o total left)) ≡ is_some o
-    same None total left = refl
-    same (Some st) total left = refl
+    same : (o : Option OrderStatus) (customer total left : ℕ) → is_some (text_by (order_of o customer total left)) ≡ is_some o
+    same None customer total left = refl
+    same (Some st) customer total left = refl
 
 all_by : (steps : List Step) → HasAll same_id (texts_by steps) (confirmed (checkouts_taken steps))
 all_by steps id some = among (checkouts_taken steps) ∙ has_text steps id some
@@ -286,7 +286,7 @@ module _ (table : List (RequestId × Order)) (from : Link) (b : Body) where
     delivered_covers (Ok x) are = λ steps stands fit.
         covers steps from b (names x) stands.run fit (λ id none.
         ap (λ b. order_after (order_by steps) b id) is
-        ∙ ap (λ n. with_delivered n (order_by steps id)) (count-none (is_item_for id) items (named_items items id (sym (are (name_by id)) ∙ none)))
+        ∙ ap (λ n. with_delivered n (order_by steps id)) (item_count-none id (order_by steps id) items (named_items items id (sym (are (name_by id)) ∙ none)))
         ∙ sym (with_delivered-zero (order_by steps id)))
     delivered_covers (Err e) are = tt
 
@@ -296,3 +296,14 @@ module _ (table : List (RequestId × Order)) (from : Link) (b : Body) where
         ∥∥₁_elim can le_prop (λ it.
         omega (arith, same x, few, items_formed-most items (sym (ap body_formed is) ∙ (fits-parts Role.Order it.0 from b it.2).formed), ap most_touched is))
     delivered_few (Err e) len same can few = tt
+
+-- an order that a body changes has its cell in a table that the body may change
+pub touched : (b : Body) (checkout : RequestId) → checkout_of b ≡ Some checkout → may_change Role.Order b (name_by checkout) ≡ true
+touched (body.StockConfirmed id customer lines) checkout is = refl
+touched (body.Confirmed id customer lines total) checkout is = refl
+touched (body.Failed id customer rule) checkout is = refl
+touched (body.Shipped id) checkout is = refl
+touched other checkout is = absurd (none_some checkout is)
+
+pub delivered_touched : (b : Body) (items : List Item) → b ≡ body.Delivered items → (checkout : RequestId) → may_change Role.Order b (name_by checkout) ≡ true
+delivered_touched b items is checkout = ap (λ x. may_change Role.Order x (name_by checkout)) is

@@ -1,5 +1,5 @@
 -- What one more step makes of what is kept of orders.
-use Rattle.std.proofs.Common.{◌≡◌, ℕ, ◌+◌, ◌-◌, ◌≤◌, ◌==◌, Bool, true, false, ◌&&◌, nat_lt, List, [], ◌∷◌, ◌++◌, Option, Some, None, is_some, option_map, length, if◌then◌else◌, refl, ap, sym, subst, ◌∙◌, arith}
+use Rattle.std.proofs.Common.{◌≡◌, ℕ, ◌+◌, ◌-◌, ◌≤◌, ◌==◌, Bool, true, false, ◌&&◌, nat_lt, List, [], ◌∷◌, ◌++◌, Option, Some, None, is_some, option_map, length, if◌then◌else◌, refl, ap, sym, subst, ◌∙◌, count_by, arith}
 use Rattle.std.proofs.lemmas.Bool.Decides.{nat_tests}
 use Rattle.std.specs.List.{list_any, list_all}
 use Rattle.market_amounts.specs.declared.keys.RequestId.{RequestId}
@@ -16,25 +16,30 @@ use Rattle.market_events.specs.Services.{Role, IsRunOf, order_fits, order_item_f
 use Rattle.market_events.specs.Steps.{Step}
 use Rattle.market_events.specs.Stocks.{Reservation, reservation_in, confirms, fails}
 use Rattle.market_events.specs.WellFormed.{total_of}
-use Rattle.market_events.proofs.ListLaws.{and_both, not_true, false_from, true_from, all-any, count-none, count-some}
+use Rattle.market_events.proofs.ListLaws.{and_both, not_true, false_from, true_from, all-any}
 use Rattle.market_events.proofs.OrderLaws.{has_order-same, order_total-same, order_total-confirmed, order_total-new, open_lines-same, open_lines-other, open_lines-new, open_lines-undelivered, status_by}
 use Rattle.market_events.proofs.OrderRuns.{OrderRun, OrderRun-of, is_item_for, lines_formed-some}
-use Rattle.market_events.proofs.SameLaws.{same_id-true}
-use Rattle.market_events.proofs.StatusLaws.{has_order-by_status, order_status-same, order_status-other, order_status-invoiced, order_status-paid, order_status-cancelled, order_status-shipped, order_status-delivered, order_status-undelivered}
+use Rattle.market_events.proofs.ReservationLaws.{none-found}
+use Rattle.market_events.proofs.SameLaws.{same_id-self, same_id-true}
+use Rattle.market_events.proofs.StatusLaws.{has_order-by_status, order_at, order_at-same, order_at-confirmed, order_status-same, order_status-other, order_status-invoiced, order_status-paid, order_status-cancelled, order_status-shipped, order_status-delivered, order_status-undelivered}
 use Rattle.market_events.proofs.StockRuns.{checkout_formed-lines}
 use Rattle.order_service.specs.declared.order.Order.{Order}
-use Rattle.order_service.specs.Kept.{open_in, new_order, with_status, with_delivered, item_count, order_after, order_by}
+use Rattle.order_service.specs.Kept.{open_in, new_order, with_status, with_delivered, is_own, item_count, order_after, customer_of, order_customer, order_by}
 use Rattle.order_service.proofs.Deliveries.{open_lines-left}
-use Rattle.order_service.proofs.Sums.{with_delivered-zero}
+use Rattle.order_service.proofs.Sums.{with_delivered-zero, item_count-none}
 
 -- an order with this status, where there is one
-abbrev pub order_of : Option OrderStatus → ℕ → ℕ → Option Order
-order_of st total left = option_map (λ (st : OrderStatus). record { status = st; total = total; undelivered = left }) st
+abbrev pub order_of : Option OrderStatus → ℕ → ℕ → ℕ → Option Order
+order_of st customer total left = option_map (λ (st : OrderStatus). record { customer = customer; status = st; total = total; undelivered = left }) st
 
--- a step that leaves all three of a checkout
-same_order : (steps : List Step) (s : Step) (id : RequestId) → order_status (steps ++ s ∷ []) id ≡ order_status steps id → order_total (steps ++ s ∷ []) id ≡ order_total steps id → open_lines (steps ++ s ∷ []) id ≡ open_lines steps id
+-- the customer: a step whose body confirms no checkout
+customer-same : (steps : List Step) (s : Step) (id : RequestId) → reservation_in s.body ≡ None → order_customer (steps ++ s ∷ []) id ≡ order_customer steps id
+customer-same steps s id none = ap customer_of (order_at-same steps s id none)
+
+-- a step that leaves all four of a checkout
+same_order : (steps : List Step) (s : Step) (id : RequestId) → order_customer (steps ++ s ∷ []) id ≡ order_customer steps id → order_status (steps ++ s ∷ []) id ≡ order_status steps id → order_total (steps ++ s ∷ []) id ≡ order_total steps id → open_lines (steps ++ s ∷ []) id ≡ open_lines steps id
     → order_by (steps ++ s ∷ []) id ≡ order_by steps id
-same_order steps s id status total lines = λ i. order_of (status i) (total i) (length (lines i))
+same_order steps s id customer status total lines = λ i. order_of (status i) (customer i) (total i) (length (lines i))
 
 -- a step that marks the order of a checkout, and no other
 marks : (steps : List Step) (s : Step) (checkout : RequestId) (st : OrderStatus) → reservation_in s.body ≡ None → items_in s.body ≡ []
@@ -45,23 +50,23 @@ marks steps s checkout st none nothing here others id = either (same_id checkout
     has : is_some (order_status steps checkout) ≡ true
     has = sym (has_order-by_status steps checkout) ∙ sym (has_order-same steps s checkout none) ∙ has_order-by_status (steps ++ s ∷ []) checkout ∙ ap is_some here
 
-    is_with_status : (o : Option OrderStatus) (total left : ℕ) → is_some o ≡ true → order_of (Some st) total left ≡ with_status st (order_of o total left)
-    is_with_status None total left has = cc
-    is_with_status (Some was) total left has = refl
+    is_with_status : (o : Option OrderStatus) (customer total left : ℕ) → is_some o ≡ true → order_of (Some st) customer total left ≡ with_status st (order_of o customer total left)
+    is_with_status None customer total left has = cc
+    is_with_status (Some was) customer total left has = refl
 
     at : order_by (steps ++ s ∷ []) checkout ≡ with_status st (order_by steps checkout)
     at =
-        (λ i. order_of (here i) (order_total-same steps s checkout none i) (length (open_lines-same steps s checkout none nothing i)))
-        ∙ is_with_status (order_status steps checkout) (order_total steps checkout) (length (open_lines steps checkout)) has
+        (λ i. order_of (here i) (customer-same steps s checkout none i) (order_total-same steps s checkout none i) (length (open_lines-same steps s checkout none nothing i)))
+        ∙ is_with_status (order_status steps checkout) (order_customer steps checkout) (order_total steps checkout) (length (open_lines steps checkout)) has
 
     either : (b : Bool) → same_id checkout id ≡ b → order_by (steps ++ s ∷ []) id ≡ (if b then with_status st (order_by steps id) else order_by steps id)
     either true same = subst (λ id. order_by (steps ++ s ∷ []) id ≡ with_status st (order_by steps id)) (same_id-true checkout id same) at
-    either false other = same_order steps s id (others id other) (order_total-same steps s id none) (open_lines-same steps s id none nothing)
+    either false other = same_order steps s id (customer-same steps s id none) (others id other) (order_total-same steps s id none) (open_lines-same steps s id none nothing)
 
 -- a checkout is confirmed by stock
 invoices : (steps : List Step) (s : Step) (checkout : RequestId) (customer : ℕ) (lines : List PricedLine) → IsRunOf Role.Order steps → s.body ≡ body.StockConfirmed checkout customer lines
     → order_fits steps (body.StockConfirmed checkout customer lines) ≡ true → is_nil lines ≡ false
-    → (id : RequestId) → order_by (steps ++ s ∷ []) id ≡ (if same_id checkout id then Some (new_order lines) else order_by steps id)
+    → (id : RequestId) → order_by (steps ++ s ∷ []) id ≡ (if same_id checkout id then Some (new_order customer lines) else order_by steps id)
 invoices steps s checkout customer lines runs is fit some id = either (same_id checkout id) refl
   where
     run : OrderRun steps
@@ -76,21 +81,27 @@ invoices steps s checkout customer lines runs is fit some id = either (same_id c
     undelivered : list_any (is_item_for checkout) (items_taken steps) ≡ false
     undelivered = false_from (list_any (is_item_for checkout) (items_taken steps)) (λ delivered. sym unshipped ∙ (run.at checkout).shipped_first delivered)
 
-    at : order_by (steps ++ s ∷ []) checkout ≡ Some (new_order lines)
+    at : order_by (steps ++ s ∷ []) checkout ≡ Some (new_order customer lines)
     at =
         let st = order_status-invoiced steps s checkout customer lines run is fit some in
         let total = order_total-new steps s checkout customer lines is new in
         let left = open_lines-new steps s checkout customer lines is new undelivered in
-        λ i. order_of (st i) (total i) (length (left i))
+        let who : order_customer (steps ++ s ∷ []) checkout ≡ customer
+        = ap customer_of (order_at-confirmed steps s checkout customer lines is new checkout)
+        ∙ ap (λ b. customer_of (if b then Some (record { checkout = checkout; customer = customer; lines = lines }) else order_at steps checkout)) (same_id-self checkout) in
+        λ i. order_of (st i) (who i) (total i) (length (left i))
 
     no_more : (b : Bool) → b ≡ false → order_total steps id + (if b then total_of lines else 0) ≡ order_total steps id
     no_more true h = cc
     no_more false h = omega arith
 
-    either : (b : Bool) → same_id checkout id ≡ b → order_by (steps ++ s ∷ []) id ≡ (if b then Some (new_order lines) else order_by steps id)
-    either true same = subst (λ id. order_by (steps ++ s ∷ []) id ≡ Some (new_order lines)) (same_id-true checkout id same) at
+    either : (b : Bool) → same_id checkout id ≡ b → order_by (steps ++ s ∷ []) id ≡ (if b then Some (new_order customer lines) else order_by steps id)
+    either true same = subst (λ id. order_by (steps ++ s ∷ []) id ≡ Some (new_order customer lines)) (same_id-true checkout id same) at
     either false other =
-        same_order steps s id (order_status-other steps s checkout customer lines is id other)
+        same_order steps s id
+        (ap customer_of (order_at-confirmed steps s checkout customer lines is new id)
+        ∙ ap (λ b. customer_of (if b then Some (record { checkout = checkout; customer = customer; lines = lines }) else order_at steps id)) other)
+        (order_status-other steps s checkout customer lines is id other)
         (order_total-confirmed steps s checkout customer lines is id ∙ no_more (same_id checkout id) other)
         (open_lines-other steps s checkout customer lines is id other)
 
@@ -103,78 +114,102 @@ module _ (steps : List Step) (items : List Item) (runs : IsRunOf Role.Order step
       (λ item passes same. ap (is_taken ships steps) (sym (same_id-true item.checkout id same)) ∙ (and_both (is_taken ships steps item.checkout) (list_any (λ (r : Reservation). is_of item.checkout r && is_line_of r.lines item) (checkouts_taken steps)) passes).0)
       items (and_both (items_apart (items_taken steps) items) (list_all (order_item_fits steps) items) fit).1 any
 
-  -- and its status is that
-  is_shipped : list_any (is_item_for id) items ≡ true → is_nil (open_lines steps id) ≡ false → order_status steps id ≡ Some status.Shipped
-  is_shipped any some =
+  -- and has an order
+  has_order : list_any (is_item_for id) items ≡ true → list_any (is_of id) (checkouts_taken steps) ≡ true
+  has_order any =
+      let at = (OrderRun-of steps runs).at id in
+      true_from (list_any (is_of id) (checkouts_taken steps)) (λ new. sym (at.unpaid new) ∙ at.paid_first (was_shipped any))
+
+  -- which is shipped or delivered
+  is_shipped : list_any (is_item_for id) items ≡ true → order_status steps id ≡ (if is_nil (open_lines steps id) then Some status.Delivered else Some status.Shipped)
+  is_shipped any =
       let at = (OrderRun-of steps runs).at id in
       let shipped = was_shipped any in
-      let paid = at.paid_first shipped in
-      let unfailed = false_from (is_taken fails steps id) (λ failed. sym (at.apart failed) ∙ paid) in
-      let has = true_from (list_any (is_of id) (checkouts_taken steps)) (λ new. sym (at.unpaid new) ∙ paid) in
-      λ i. status_by (has i) (unfailed i) (some i) (shipped i) (is_taken confirms steps id)
+      let unfailed = false_from (is_taken fails steps id) (λ failed. sym (at.apart failed) ∙ at.paid_first shipped) in
+      λ i. status_by (has_order any i) (unfailed i) (is_nil (open_lines steps id)) (shipped i) (is_taken confirms steps id)
 
-  -- lines that are some
-  not_nil : (lines : List PricedLine) → 1 ≤ length lines → is_nil lines ≡ false
-  not_nil [] some = absurd (omega arith)
-  not_nil (l ∷ lines) some = refl
+  -- an order that is shipped, by its open lines
+  abbrev shipped_with : List PricedLine → Option Order
+  shipped_with lines = order_of (if is_nil lines then Some status.Delivered else Some status.Shipped) (order_customer steps id) (order_total steps id) (length lines)
 
-  -- so the order is
-  order_shipped : list_any (is_item_for id) items ≡ true → 1 ≤ length (open_lines steps id) → order_by steps id ≡ order_of (Some status.Shipped) (order_total steps id) (length (open_lines steps id))
-  order_shipped any some = ap (λ st. order_of st (order_total steps id) (length (open_lines steps id))) (is_shipped any (not_nil (open_lines steps id) some))
+  order_shipped : list_any (is_item_for id) items ≡ true → order_by steps id ≡ shipped_with (open_lines steps id)
+  order_shipped any = ap (λ st. order_of st (order_customer steps id) (order_total steps id) (length (open_lines steps id))) (is_shipped any)
+
+  -- how many items are its own, and how many lines are open
+  own_count : (lines : List PricedLine) → item_count id (shipped_with lines) items ≡ count_by (is_own id (order_customer steps id)) items
+  own_count [] = refl
+  own_count (l ∷ lines) = refl
+
+  open_count : (lines : List PricedLine) → open_in (shipped_with lines) ≡ length lines
+  open_count [] = refl
+  open_count (l ∷ lines) = refl
+
+  -- with lines that are left
+  with_left : (now was : List PricedLine) (n : ℕ) → length now + n ≡ length was → shipped_with now ≡ with_delivered n (shipped_with was)
+  with_left [] [] n e =
+      let none : 0 ≡ 0 - n = omega (arith, e) in
+      λ i. Some (record { customer = order_customer steps id; status = either (nat_lt 0 n && (0 - n == 0)) i; total = order_total steps id; undelivered = none i })
+    where
+      either : (b : Bool) → status.Delivered ≡ (if b then status.Delivered else status.Delivered)
+      either true = refl
+      either false = refl
+  with_left [] (w ∷ was) n e =
+      let left = length (w ∷ was) in
+      let more : nat_lt 0 n ≡ true = grind (arith, nat_tests) in
+      let none : 0 ≡ left - n = omega (arith, e) in
+      (λ i. Some (record { customer = order_customer steps id; status = if sym more i && (0 == 0) then status.Delivered else status.Shipped; total = order_total steps id; undelivered = 0 }))
+      ∙ (λ i. Some (record { customer = order_customer steps id; status = if nat_lt 0 n && (none i == 0) then status.Delivered else status.Shipped; total = order_total steps id; undelivered = none i }))
+  with_left (l ∷ now) [] n e = absurd (omega (arith, e))
+  with_left (l ∷ now) (w ∷ was) n e =
+      let left = length (w ∷ was) in
+      let here : length (l ∷ now) ≡ left - n = omega (arith, e) in
+      let open_still : false ≡ (left - n == 0) = grind (arith, nat_tests) in
+      (λ i. Some (record { customer = order_customer steps id; status = status.Shipped; total = order_total steps id; undelivered = here i }))
+      ∙ ap (λ b. let o : Option Order = Some (record { customer = order_customer steps id; status = if b then status.Delivered else status.Shipped; total = order_total steps id; undelivered = left - n }) in o) (and_none (nat_lt 0 n) (left - n == 0) open_still)
+    where
+      and_none : (a b : Bool) → false ≡ b → false ≡ (a && b)
+      and_none true b h = h
+      and_none false b h = refl
 
   module _ (s : Step) (is : s.body ≡ body.Delivered items) where
-    left : length (open_lines (steps ++ s ∷ []) id) + item_count id items ≡ length (open_lines steps id)
-    left = open_lines-left steps s items runs is fit id
-
-    -- the order with lines that are left
-    with_left : (lines : List PricedLine) (n was total : ℕ) → 1 ≤ n → length lines + n ≡ was
-        → order_of (if is_nil lines then Some status.Delivered else Some status.Shipped) total (length lines) ≡ with_delivered n (order_of (Some status.Shipped) total was)
-    with_left [] n was total some e =
-        let more : nat_lt 0 n ≡ true = grind (arith, nat_tests) in
-        let none : 0 ≡ was - n = omega (arith, e) in
-        (λ i. Some (record { status = if sym more i && (0 == 0) then status.Delivered else status.Shipped; total = total; undelivered = 0 }))
-        ∙ (λ i. Some (record { status = if nat_lt 0 n && (none i == 0) then status.Delivered else status.Shipped; total = total; undelivered = none i }))
-    with_left (l ∷ lines) n was total some e =
-        let here : length (l ∷ lines) ≡ was - n = omega (arith, e) in
-        let open_still : false ≡ (was - n == 0) = grind (arith, nat_tests) in
-        (λ i. Some (record { status = status.Shipped; total = total; undelivered = here i }))
-        ∙ ap (λ b. let o : Option Order = Some (record { status = if b then status.Delivered else status.Shipped; total = total; undelivered = was - n }) in o) (and_none (nat_lt 0 n) (was - n == 0) open_still)
+    left : list_any (is_item_for id) items ≡ true → length (open_lines (steps ++ s ∷ []) id) + item_count id (order_by steps id) items ≡ length (open_lines steps id)
+    left any = by (order_at steps id) refl
       where
-        and_none : (a b : Bool) → false ≡ b → false ≡ (a && b)
-        and_none true b h = h
-        and_none false b h = refl
+        counted : item_count id (order_by steps id) items ≡ count_by (is_own id (order_customer steps id)) items
+        counted = ap (λ o. item_count id o items) (order_shipped any) ∙ own_count (open_lines steps id)
 
-    delivers : order_by (steps ++ s ∷ []) id ≡ with_delivered (item_count id items) (order_by steps id)
+        by : (o : Option Reservation) → order_at steps id ≡ o → length (open_lines (steps ++ s ∷ []) id) + item_count id (order_by steps id) items ≡ length (open_lines steps id)
+        by None found = cc (none-found id (checkouts_taken steps) found, has_order any)
+        by (Some r) found = ap (λ n. length (open_lines (steps ++ s ∷ []) id) + n) counted ∙ open_lines-left steps s items runs is fit id r found
+
+    delivers : order_by (steps ++ s ∷ []) id ≡ with_delivered (item_count id (order_by steps id) items) (order_by steps id)
     delivers = either (list_any (is_item_for id) items) refl
       where
-        either : (b : Bool) → list_any (is_item_for id) items ≡ b → order_by (steps ++ s ∷ []) id ≡ with_delivered (item_count id items) (order_by steps id)
+        either : (b : Bool) → list_any (is_item_for id) items ≡ b → order_by (steps ++ s ∷ []) id ≡ with_delivered (item_count id (order_by steps id) items) (order_by steps id)
         either true any =
-            let n = count-some (is_item_for id) items any in
             let st = order_status-delivered steps s items id (OrderRun-of steps runs) is (was_shipped any) in
+            let who = customer-same steps s id (ap reservation_in is) in
             let total = order_total-same steps s id (ap reservation_in is) in
-            (λ i. order_of (st i) (total i) (length (open_lines (steps ++ s ∷ []) id)))
-            ∙ with_left (open_lines (steps ++ s ∷ []) id) (item_count id items) (length (open_lines steps id)) (order_total steps id) n left
-            ∙ ap (with_delivered (item_count id items)) (sym (order_shipped any (omega (arith, n, left))))
+            (λ i. order_of (st i) (who i) (total i) (length (open_lines (steps ++ s ∷ []) id)))
+            ∙ with_left (open_lines (steps ++ s ∷ []) id) (open_lines steps id) (item_count id (order_by steps id) items) (left any)
+            ∙ ap (with_delivered (item_count id (order_by steps id) items)) (sym (order_shipped any))
         either false none =
-            let zero : item_count id items ≡ 0 = count-none (is_item_for id) items none in
-            same_order steps s id (order_status-undelivered steps s items id is none) (order_total-same steps s id (ap reservation_in is)) (open_lines-undelivered steps s items is id none)
+            let zero : item_count id (order_by steps id) items ≡ 0 = item_count-none id (order_by steps id) items none in
+            same_order steps s id (customer-same steps s id (ap reservation_in is)) (order_status-undelivered steps s items id is none) (order_total-same steps s id (ap reservation_in is)) (open_lines-undelivered steps s items is id none)
             ∙ with_delivered-zero (order_by steps id) ∙ ap (λ n. with_delivered n (order_by steps id)) (sym zero)
 
     -- the lines that are delivered were open
-    pub delivers_open : item_count id items ≤ open_in (order_by steps id)
+    pub delivers_open : item_count id (order_by steps id) items ≤ open_in (order_by steps id)
     delivers_open = either (list_any (is_item_for id) items) refl
       where
-        either : (b : Bool) → list_any (is_item_for id) items ≡ b → item_count id items ≤ open_in (order_by steps id)
-        either true any =
-            let n = count-some (is_item_for id) items any in
-            let here = order_shipped any (omega (arith, n, left)) in
-            omega (arith, left, ap open_in here)
-        either false none = let zero : item_count id items ≡ 0 = count-none (is_item_for id) items none in omega (arith, zero)
+        either : (b : Bool) → list_any (is_item_for id) items ≡ b → item_count id (order_by steps id) items ≤ open_in (order_by steps id)
+        either true any = omega (arith, left any, ap open_in (order_shipped any), open_count (open_lines steps id))
+        either false none = omega (arith, item_count-none id (order_by steps id) items none)
 
 -- what a step leaves of each order
 by_body : (steps : List Step) (s : Step) (b : Body) → s.body ≡ b → IsRunOf Role.Order steps → order_fits steps b ≡ true → body_formed b ≡ true → (id : RequestId) → order_by (steps ++ s ∷ []) id ≡ order_after (order_by steps) b id
 by_body steps s (body.Asked request) is run fit formed id =
-    same_order steps s id (order_status-same steps s id (ap reservation_in is) (ap items_in is) (ap (fails id) is) (ap (confirms id) is) (ap (ships id) is))
+    same_order steps s id (customer-same steps s id (ap reservation_in is)) (order_status-same steps s id (ap reservation_in is) (ap items_in is) (ap (fails id) is) (ap (confirms id) is) (ap (ships id) is))
     (order_total-same steps s id (ap reservation_in is)) (open_lines-same steps s id (ap reservation_in is) (ap items_in is))
 by_body steps s (body.StockConfirmed checkout customer lines) is run fit formed id =
     invoices steps s checkout customer lines run is fit (lines_formed-some lines (checkout_formed-lines checkout customer lines formed)) id

@@ -45,10 +45,11 @@ pub fn invoice(
     ensures made { let invoice = Body.Invoice checkout customer lines.now (total_of lines.now) in
         OnOk result (outs.new ≡ (Link.Service 6, invoice) ∷ (Link.Service 5, invoice) ∷ []) }
     ensures each { OnOk result ((id : RequestId) → order_at orders.new.entries id
-        ≡ (if same_id checkout id then Some (new_order lines.now) else order_at orders.old.entries id)) }
+        ≡ (if same_id checkout id then Some (new_order customer lines.now) else order_at orders.old.entries id)) }
     ensures err { OnErr result (orders.new.entries ≡ orders.old.entries) }
 {
     let order = Order {
+        customer,
         status: OrderStatus::Invoiced,
         total: cost_of(lines.as_slice()),
         undelivered: lines.as_slice().len(),

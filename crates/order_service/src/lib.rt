@@ -8,8 +8,6 @@ mod names;
 mod order;
 mod orders;
 mod table;
-#[cfg(test)]
-mod tests;
 
 pub use order::Order;
 pub use orders::Orders;

@@ -20,7 +20,8 @@ use std::alloc::{AllocError, Global};
 use std::collections::BTreeMap;
 use std::marker::Model;
 
-/// Of each checkout that stock confirmed how far its order is, what it costs, and how many of its lines are open.
+/// Of each checkout that stock confirmed whose its order is, how far it is, what it costs, and how many of its lines are
+/// open.
 /// Contracts see the entries by rising checkout.
 #[derive(Debug, Drop)]
 pub struct Orders {
@@ -53,7 +54,8 @@ impl Orders {
     fn take(&mut self, body: &Body, outs: &mut Outs) -> Result<(), AllocError>
         requires empty { outs.old ≡ [] }
         requires formed { body_formed body.now ≡ true }
-        requires undelivered { (id : RequestId) → item_count id (items_in body.now) ≤ open_in (order_at self.old id) }
+        requires undelivered { (id : RequestId) → let order = order_at self.old id in
+            item_count id order (items_in body.now) ≤ open_in order }
         ensures made { OnOk result (outs.new ≡ order_rows (sums_at self.old) body.now) }
         ensures each { OnOk result ((id : RequestId) → order_at self.new id ≡ order_after (order_at self.old) body.now id) }
         ensures err { OnErr result (self.new ≡ self.old) }

@@ -1,4 +1,3 @@
 pub mod Steps
 pub mod Tabling
 pub mod Told
-pub mod Testing

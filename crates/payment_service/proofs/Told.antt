@@ -1,7 +1,8 @@
 -- What the service tells of its cells, by what it keeps.
-use Rattle.std.proofs.Common.{◌≡◌, ℕ, ◌+◌, Bool, true, false, ◌==◌, ◌||◌, nat_le, List, [], ◌∷◌, ◌++◌, map, Option, Some, None, unwrap_or, if◌then◌else◌, refl, ap, ap₂, sym, subst, ◌∙◌, ◌↔◌, arith}
-use Rattle.std.specs.List.{cons_option, IsDistinct}
+use Rattle.std.proofs.Common.{◌≡◌, ℕ, ◌+◌, Bool, true, false, ◌==◌, ◌||◌, nat_le, List, [], ◌∷◌, ◌++◌, map, Option, Some, None, unwrap_or, codes, if◌then◌else◌, refl, ap, ap₂, sym, subst, ◌∙◌, ◌↔◌, arith}
+use Rattle.std.specs.List.{cons_option, list_any, IsDistinct}
 use Rattle.std.specs.Map.{keys_of}
+use Rattle.std.specs.Ordering.{is_eq}
 use Rattle.std.proofs.lemmas.Bool.Decides.{nat_tests}
 use Rattle.market_amounts.specs.declared.keys.RequestId.{RequestId}
 use Rattle.market_events.specs.declared.bodies.Body.{Body}
@@ -13,15 +14,15 @@ use Rattle.market_events.specs.declared.links.Link.{Link}
 use Rattle.market_events.specs.declared.requests.Ask.{Ask}
 use Rattle.market_events.specs.declared.requests.Ask.TheVariants as ask
 use Rattle.market_events.specs.CellLists.{Within, put_all}
-use Rattle.market_events.specs.Cells.{account_text, cells_of, cells_listed, payment_cells}
+use Rattle.market_events.specs.Cells.{account_text, cells_of, cells_listed, payment_cells, text_cmp}
 use Rattle.market_events.specs.Copies.{last_some}
 use Rattle.market_events.specs.Payments.{PaymentSums, limit_asked, limit_in, limit_of, spent, payment_asked, payment_rows, payment_sums}
 use Rattle.market_events.specs.Services.{Role, IsRunOf, fits}
-use Rattle.market_events.specs.Standing.{Stands, with_step, step_of, same_name, is_named, has_cell, value_of}
+use Rattle.market_events.specs.Standing.{Stands, with_step, step_of, same_name, is_named, has_cell, value_of, may_change, tables_asked}
 use Rattle.market_events.specs.Steps.{Step}
 use Rattle.market_events.specs.WellFormed.{IsId}
 use Rattle.market_events.proofs.CellLaws.{value_at}
-use Rattle.market_events.proofs.KeyedCells.{IsFilled, is_among, at_name, at_none, alike, named_list, last_filled, entries_told, value_told, none_told, covers_told}
+use Rattle.market_events.proofs.KeyedCells.{IsFilled, is_among, at_name, at_none, alike, named_list, last_filled, entries_told, value_told, none_told, covers_told, none_some}
 use Rattle.market_events.proofs.PaymentLaws.{limit_of-same, spent-push, answers-payment}
 use Rattle.market_events.proofs.StandingLaws.{is_run_push, follows_step_of}
 use Rattle.payment_service.specs.declared.accounts.Account.{Account}
@@ -133,3 +134,13 @@ one_distinct name = (tt, tt)
 pub none_distinct : IsDistinct same_name []
 unfolding IsDistinct
 none_distinct = tt
+
+-- a customer whose account a body may change has its cell in a table that the body may change
+pub touched : (b : Body) (c : ℕ) → customer_by b ≡ Some c → may_change Role.Payment b (name_by c) ≡ true
+touched (body.Asked request) c is = by request.ask is
+  where
+    by : (what : Ask) → customer_asked what ≡ Some c → list_any (λ (t : List ℕ). is_eq (text_cmp t (codes "account"))) (tables_asked Role.Payment what) ≡ true
+    by (ask.Card d limit) e = refl
+    by other e = absurd (none_some c e)
+touched (body.Invoice checkout customer lines total) c is = refl
+touched other c is = absurd (none_some c is)

@@ -6,8 +6,6 @@ mod accounts;
 mod billing;
 mod cells;
 mod payments;
-#[cfg(test)]
-mod tests;
 
 pub use accounts::Account;
 pub use payments::Payments;

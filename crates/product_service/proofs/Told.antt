@@ -1,27 +1,33 @@
 -- What the service tells of its cells, by what it keeps.
-use Rattle.std.proofs.Common.{◌≡◌, ℕ, true, false, List, [], ◌∷◌, Option, Some, unwrap_or, codes, ◌↔◌, ap, sym, subst, ◌∙◌}
-use Rattle.std.specs.List.{IsDistinct}
+use Rattle.std.proofs.Common.{◌≡◌, ℕ, true, false, List, [], ◌∷◌, Option, Some, unwrap_or, codes, ◌↔◌, refl, ap, sym, subst, ◌∙◌}
+use Rattle.std.specs.List.{IsDistinct, list_any}
+use Rattle.std.specs.Option.{option_map}
+use Rattle.std.specs.Ordering.{is_eq}
 use Rattle.market_amounts.specs.declared.keys.ProductKey.{ProductKey}
 use Rattle.market_events.specs.declared.bodies.Body.{Body}
+use Rattle.market_events.specs.declared.bodies.Body.TheVariants as body
+use Rattle.market_events.specs.declared.changes.Change.{Change}
+use Rattle.market_events.specs.declared.requests.Ask.{Ask}
+use Rattle.market_events.specs.declared.requests.Ask.TheVariants as ask
 use Rattle.market_events.specs.declared.cells.CellName.{CellName}
 use Rattle.market_events.specs.declared.changes.Look.{Look}
 use Rattle.market_events.specs.declared.links.Link.{Link}
 use Rattle.market_events.specs.CellLists.{put_all, entry_cells_of}
 use Rattle.market_events.specs.CellNames.{key_name}
-use Rattle.market_events.specs.Cells.{look_cells, cells_of}
+use Rattle.market_events.specs.Cells.{look_cells, cells_of, text_cmp}
 use Rattle.market_events.specs.Copies.{ProductChange, last_some}
 use Rattle.market_events.specs.Products.{changes_made}
 use Rattle.market_events.specs.Services.{Role, fits}
-use Rattle.market_events.specs.Standing.{Stands, with_step, same_name, is_named, has_cell, value_of}
+use Rattle.market_events.specs.Standing.{Stands, with_step, same_name, is_named, has_cell, value_of, may_change, tables_asked}
 use Rattle.market_events.specs.Steps.{Step}
 use Rattle.market_events.proofs.CellLaws.{value_at}
-use Rattle.market_events.proofs.KeyedCells.{IsFilled, entries_told, value_told, none_told, covers_told}
+use Rattle.market_events.proofs.KeyedCells.{IsFilled, entries_told, value_told, none_told, covers_told, none_some}
 use Rattle.market_events.proofs.ListLaws.{or_parts}
 use Rattle.market_events.proofs.StandingLaws.{is_fit}
 use Rattle.cart_replica.specs.Copy.{IsCopyOf}
 use Rattle.cart_replica.specs.CopyCells.{copy_cells, AreKeysFormed}
 use Rattle.cart_replica.proofs.CopyCells.{copy_cells-same, look_cells-filled}
-use Rattle.product_service.specs.Changing.{key_wanted}
+use Rattle.product_service.specs.Changing.{key_wanted, change_by}
 use Rattle.product_service.specs.Products.{HoldsProducts}
 use Rattle.product_service.proofs.Changes.{cells_same, changes_made-formed}
 
@@ -70,3 +76,15 @@ none_distinct = tt
 
 pub same_some : {A : Type 0} (x y : A) → Some x ≡ Some y → x ≡ y
 same_some x y e = cc
+
+-- a product whose change is asked for has its cell in a table that the request may change
+pub touched : (b : Body) (key : ProductKey) → key_wanted b ≡ Some key → may_change Role.Product b (key_name table key) ≡ true
+touched (body.Asked request) key wanted = by request.ask wanted
+  where
+    by : (what : Ask) → option_map (λ (w : ProductKey × Change). w.0) (change_by what) ≡ Some key
+        → list_any (λ (t : List ℕ). is_eq (text_cmp t table)) (tables_asked Role.Product what) ≡ true
+    by (ask.Create k price freight) e = refl
+    by (ask.Price k price) e = refl
+    by (ask.Delete k) e = refl
+    by other e = absurd (none_some key e)
+touched other key wanted = absurd (none_some key wanted)

@@ -4,7 +4,5 @@
 
 mod changing;
 mod products;
-#[cfg(test)]
-mod tests;
 
 pub use products::Products;

@@ -8,4 +8,3 @@ pub mod Putting
 pub mod Entered
 pub mod SellerCells
 pub mod Touching
-pub mod Testing

@@ -1,5 +1,5 @@
 -- Cells that are put one after the other, of numbered elements, and names that are put so.
-use Rattle.std.proofs.Common.{◌≡◌, ℕ, ◌+◌, ◌<◌, ◌≤◌, Bool, true, false, cond, ◌||◌, nat_le, List, [], ◌∷◌, ◌++◌, map, length, take, get_or, count_by, leb-true, refl, ap, sym, ◌∙◌, arith}
+use Rattle.std.proofs.Common.{◌≡◌, ℕ, ◌+◌, ◌<◌, ◌≤◌, Bool, true, false, cond, ◌||◌, nat_le, List, [], ◌∷◌, ◌++◌, map, length, take, get_or, count_by, leb-true, refl, ap, sym, ◌∙◌, arith, ◌⊎◌, inl, inr}
 use Rattle.std.specs.List.{enumerate_from}
 use Rattle.std.proofs.lemmas.Bool.{eqb-true, leb-false}
 use Rattle.std.proofs.lemmas.List.{take_more, map_push, length-take-le}
@@ -8,7 +8,7 @@ use Rattle.market_events.specs.declared.cells.CellName.{CellName}
 use Rattle.market_events.specs.CellLists.{put_cell, put_all}
 use Rattle.market_events.specs.Sellers.{SellerChange}
 use Rattle.market_events.specs.Standing.{same_name, is_named}
-use Rattle.market_events.proofs.CellLaws.{same_name-same}
+use Rattle.market_events.proofs.CellLaws.{same_name-same, same_name-true}
 use Rattle.market_events.proofs.KeyedCells.{put_all-append}
 use Rattle.market_events.proofs.ListLaws.{or_left, or_right}
 use Rattle.seller_service.specs.Kept.{is_of_seller}
@@ -62,3 +62,13 @@ named-next at length_of changes i c below is old new name told put was seller nu
 -- and what was named still is
 pub named-stay : (old new : List CellName) (name other : CellName) → ((other : CellName) → is_named new other ≡ (same_name other name || is_named old other)) → is_named old other ≡ true → is_named new other ≡ true
 named-stay old new name other put was = put other ∙ or_right (same_name other name) was
+
+-- what is named is of this table, or was named before
+pub tables-next : (old new : List CellName) (name : CellName) (table : List ℕ) → name.table ≡ table → ((other : CellName) → is_named new other ≡ (same_name other name || is_named old other))
+    → (start : List CellName) → ((other : CellName) → is_named old other ≡ true → (is_named start other ≡ true) ⊎ (other.table ≡ table))
+    → (other : CellName) → is_named new other ≡ true → (is_named start other ≡ true) ⊎ (other.table ≡ table)
+tables-next old new name table of put start was other here = by (same_name other name) refl (sym (put other) ∙ here)
+  where
+    by : (b : Bool) → same_name other name ≡ b → (b || is_named old other) ≡ true → (is_named start other ≡ true) ⊎ (other.table ≡ table)
+    by true same e = inr (ap (λ (n : CellName). n.table) (same_name-true other name same) ∙ of)
+    by false apart e = was other e

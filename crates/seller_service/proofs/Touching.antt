@@ -1,8 +1,9 @@
 -- The names of the cells that an event changes are few, and they are all.
-use Rattle.std.proofs.Common.{◌≡◌, ℕ, ◌+◌, ◌≤◌, ◌<◌, Bool, true, false, cond, ◌==◌, List, [], ◌∷◌, length, filter, filter_map, find, count_by, Option, Some, None, option_map, refl, ap, sym, subst, ◌∙◌, arith}
+use Rattle.std.proofs.Common.{◌≡◌, ℕ, ◌+◌, ◌≤◌, ◌<◌, Bool, true, false, cond, ◌==◌, List, [], ◌∷◌, length, codes, filter, filter_map, find, count_by, Option, Some, None, option_map, refl, ap, sym, subst, ◌∙◌, arith}
 use Rattle.std.proofs.Math.Logic.{∥∥₁_elim}
 use Rattle.std.specs.Coded.{le_prop}
-use Rattle.std.specs.List.{cons_option}
+use Rattle.std.specs.List.{cons_option, list_any}
+use Rattle.std.specs.Ordering.{is_eq}
 use Rattle.std.proofs.lemmas.List.{length-map}
 use Rattle.std.proofs.lemmas.List.Sums.{length-filter}
 use Rattle.market_amounts.specs.declared.keys.RequestId.{RequestId}
@@ -15,11 +16,12 @@ use Rattle.market_events.specs.declared.links.Link.{Link}
 use Rattle.market_events.specs.declared.replies.OrderStatus.{OrderStatus}
 use Rattle.market_events.specs.declared.replies.OrderStatus.TheVariants as status
 use Rattle.market_events.specs.declared.requests.Ask.{Ask}
+use Rattle.market_events.specs.Cells.{text_cmp}
 use Rattle.market_events.specs.Formed.{body_formed, checkout_formed}
 use Rattle.market_events.specs.Requests.{same_key}
 use Rattle.market_events.specs.Sellers.{SellerChange, adds, entries_at, invoice_lines}
 use Rattle.market_events.specs.Services.{Role, IsRunOf, fits}
-use Rattle.market_events.specs.Standing.{Stands, CanTake, is_named, most_by_ask, most_touched}
+use Rattle.market_events.specs.Standing.{Stands, CanTake, is_named, may_change, most_by_ask, most_touched}
 use Rattle.market_events.specs.Steps.{Step, taken_bodies}
 use Rattle.market_events.specs.WellFormed.{total_of}
 use Rattle.market_events.proofs.BoundLaws.{lines_formed-most, items_formed-most}
@@ -27,6 +29,7 @@ use Rattle.market_events.proofs.ListLaws.{and_both}
 use Rattle.market_events.proofs.StepLaws.{fits-parts}
 use Rattle.market_events.proofs.StockRuns.{checkout_formed-lines}
 use Rattle.market_events.proofs.TotalLaws.{invoice_lines-most}
+use Rattle.market_events.proofs.TouchedTables.{named_none}
 use Rattle.seller_service.specs.declared.cells.Place.TheVariants as place
 use Rattle.seller_service.specs.Cells.{place_name}
 use Rattle.seller_service.specs.Kept.{Kept, IsKept, lines_at, is_of_seller, all_marked, delivered_by, brought_by}
@@ -163,3 +166,21 @@ told_both names changes brought changed entered = record {
   entered = λ seller number above few.
       entered seller number above (omega (arith, few, entries_few (filter (is_of_seller seller) brought), length-filter (is_of_seller seller) brought));
 }
+
+-- the name of a cell of an entry is of a table that an invoice may change
+pub entry_touched : (b : Body) (checkout : RequestId) (customer : ℕ) (lines : List PricedLine) (total : ℕ) → b ≡ body.Invoice checkout customer lines total
+    → (name : CellName) → name.table ≡ codes "entry" → may_change Role.Seller b name ≡ true
+entry_touched b checkout customer lines total is name table =
+    ap (λ x. may_change Role.Seller x name) is ∙ ap (λ t. list_any (λ (s : List ℕ). is_eq (text_cmp s t)) (codes "entry" ∷ codes "change" ∷ [])) table
+
+-- and that of a change is of one that a body may change that brings any
+pub change_touched : (invoices : RequestId → List PricedLine) (b : Body) (names : List CellName) → length names ≤ length (brought_by invoices b)
+    → (name : CellName) → is_named names name ≡ true → name.table ≡ codes "change" → may_change Role.Seller b name ≡ true
+change_touched invoices (body.Invoice checkout customer lines total) names few name here table =
+    ap (λ t. list_any (λ (s : List ℕ). is_eq (text_cmp s t)) (codes "entry" ∷ codes "change" ∷ [])) table
+change_touched invoices (body.Confirmed checkout customer lines total) names few name here table = ap (λ t. list_any (λ (s : List ℕ). is_eq (text_cmp s t)) (codes "change" ∷ [])) table
+change_touched invoices (body.Failed checkout customer reason) names few name here table = ap (λ t. list_any (λ (s : List ℕ). is_eq (text_cmp s t)) (codes "change" ∷ [])) table
+change_touched invoices (body.Shipped checkout) names few name here table = ap (λ t. list_any (λ (s : List ℕ). is_eq (text_cmp s t)) (codes "change" ∷ [])) table
+change_touched invoices (body.Delivered items) names few name here table = ap (λ t. list_any (λ (s : List ℕ). is_eq (text_cmp s t)) (codes "change" ∷ [])) table
+change_touched invoices other [] few name here table = named_none name here
+change_touched invoices other (n ∷ names) few name here table = absurd (omega arith)

@@ -1,4 +1,3 @@
 pub mod Entries
 pub mod Kept
 pub mod Cells
-pub mod Examples

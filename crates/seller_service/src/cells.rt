@@ -1,6 +1,6 @@
 //! Names and values of the sellers' cells.
 
-ghost use Rattle.std.specs.Prelude.{◌≡◌, ℕ, ◌+◌, ◌≤◌, ◌<◌, ◌^◌, true, [], length, map, count_by, Some, option_map, IfOk, OnOk, IfSome};
+ghost use Rattle.std.specs.Prelude.{◌≡◌, ℕ, ◌+◌, ◌≤◌, ◌<◌, ◌^◌, ◌⊎◌, true, codes, [], length, map, count_by, Some, option_map, IfOk, OnOk, IfSome};
 ghost use Rattle.std.specs.Option.{option_copied};
 ghost use Rattle.market_events.specs.declared.cells.CellName.{CellName as Name};
 ghost use Rattle.market_events.specs.Cells.{cells_listed, entry_number, entry_text};
@@ -275,6 +275,8 @@ pub fn put_change_names(
     ensures named { OnOk result ((seller number : ℕ) → length (changes_at ledgers.now.entries seller) < number
         → number ≤ length (changes_at ledgers.now.entries seller) + count_by (is_of_seller seller) changes.now
         → is_named names.new (place_name (Place.Change seller number)) ≡ true) }
+    ensures tables { OnOk result ((name : Name) → is_named names.new name ≡ true
+        → (is_named names.old name ≡ true) ⊎ (name.table ≡ codes "change")) }
     ensures stay { OnOk result ((name : Name) → is_named names.old name ≡ true → is_named names.new name ≡ true) }
     ensures few { OnOk result (length names.new ≤ length names.old + length changes.now) }
 {
@@ -297,6 +299,8 @@ pub fn put_entry_names(
     ensures named { OnOk result ((seller number : ℕ) → length (entries_at (changes_at ledgers.now.entries seller)) < number
         → number ≤ length (entries_at (changes_at ledgers.now.entries seller)) + count_by (is_of_seller seller) changes.now
         → is_named names.new (place_name (Place.Entry seller number)) ≡ true) }
+    ensures tables { OnOk result ((name : Name) → is_named names.new name ≡ true
+        → (is_named names.old name ≡ true) ⊎ (name.table ≡ codes "entry")) }
     ensures stay { OnOk result ((name : Name) → is_named names.old name ≡ true → is_named names.new name ≡ true) }
     ensures few { OnOk result (length names.new ≤ length names.old + length changes.now) }
 {

@@ -10,7 +10,5 @@ mod dashboard;
 mod ledger;
 mod ledgers;
 mod sellers;
-#[cfg(test)]
-mod tests;
 
 pub use sellers::Sellers;

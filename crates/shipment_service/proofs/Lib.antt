@@ -13,4 +13,3 @@ pub mod Steps
 pub mod Joining
 pub mod PackageCells
 pub mod Touched
-pub mod Testing

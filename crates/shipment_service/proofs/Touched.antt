@@ -1,5 +1,5 @@
 -- The names that a payment and a delivery touch.
-use Rattle.std.proofs.Common.{◌≡◌, ℕ, ◌+◌, ◌<◌, ◌≤◌, ◌^◌, ◌==◌, ◌||◌, Bool, true, false, cond, nat_lt, List, [], ◌∷◌, ◌++◌, length, map, filter, take, None, vec_len, ◌&&◌, Result, Ok, Err, IfOk, refl, ap, sym, ◌∙◌, subst, arith}
+use Rattle.std.proofs.Common.{◌≡◌, ℕ, ◌+◌, ◌<◌, ◌≤◌, ◌^◌, ◌==◌, ◌||◌, Bool, true, false, cond, nat_lt, List, [], ◌∷◌, ◌++◌, length, codes, map, filter, take, None, vec_len, ◌&&◌, Result, Ok, Err, IfOk, refl, ap, sym, ◌∙◌, subst, arith}
 use Rattle.std.proofs.Math.Logic.{∥∥₁_elim}
 use Rattle.std.specs.Coded.{le_prop}
 use Rattle.std.specs.List.{list_any, list_all, IsDistinct, AllByRecursion}
@@ -18,12 +18,12 @@ use Rattle.market_events.specs.declared.bodies.PricedLine.{PricedLine}
 use Rattle.market_events.specs.declared.links.Link.{Link}
 use Rattle.market_events.specs.declared.requests.Ask.TheVariants as ask
 use Rattle.market_events.specs.declared.requests.Request.{Request}
-use Rattle.market_events.specs.Cells.{cells_of}
+use Rattle.market_events.specs.Cells.{cells_of, text_cmp}
 use Rattle.market_events.specs.Formed.{body_formed, checkout_formed}
 use Rattle.market_events.specs.declared.cells.CellName.{CellName}
 use Rattle.market_events.specs.Services.{Role, IsRunOf, fits}
 use Rattle.market_events.specs.Shipments.{most_sellers, packages, packages_in, shipment_rows, shipment_sums}
-use Rattle.market_events.specs.Standing.{same_name, is_named, value_of, with_step, step_of}
+use Rattle.market_events.specs.Standing.{same_name, is_named, value_of, may_change, tables_asked, with_step, step_of}
 use Rattle.market_events.specs.Steps.{Step}
 use Rattle.market_events.specs.WellFormed.{IsId, most_lines, total_of}
 use Rattle.market_events.proofs.BoundLaws.{lines_formed-most}
@@ -126,3 +126,8 @@ pub picked-by : (table : List Package) (queues : List (ℕ × List (ℕ × Item)
 picked-by table queues oldest steps run held ordered turns first picked rises each =
     picked-taken (waiting_by steps) (waiting-rise steps) queues oldest held.waiting (waiting-lined steps run).grouped turns
     (turns-are queues oldest (waiting_by steps) held.waiting (waiting-rise steps) ordered turns first) picked rises each
+
+-- a request to deliver may change packages
+pub delivering-touched : (b : Body) (request : Request) → b ≡ body.Asked request → request.ask ≡ ask.Deliver → (n : ℕ) → may_change Role.Shipment b (name_by n) ≡ true
+delivering-touched b request is what n =
+    ap (λ x. may_change Role.Shipment x (name_by n)) is ∙ ap (λ a. list_any (λ (t : List ℕ). is_eq (text_cmp t (codes "package"))) (tables_asked Role.Shipment a)) what

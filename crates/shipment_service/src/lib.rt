@@ -9,8 +9,6 @@ mod package;
 mod queue;
 mod queues;
 mod shipments;
-#[cfg(test)]
-mod tests;
 mod waiting;
 
 pub use package::Package;

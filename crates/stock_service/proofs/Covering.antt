@@ -3,6 +3,7 @@ use Rattle.std.proofs.Common.{◌≡◌, ℕ, ◌+◌, true, false, ◌&&◌, �
 use Rattle.std.specs.List.{list_any, list_all, IsDistinct}
 use Rattle.std.proofs.lemmas.Bool.Decides.{nat_tests}
 use Rattle.std.specs.Option.{option_or}
+use Rattle.std.specs.Ordering.{is_eq}
 use Rattle.std.proofs.lemmas.Bool.{or_parts, or_from, false_from_ne_true, both_ways}
 use Rattle.std.proofs.Math.Logic.{∥∥₁_elim}
 use Rattle.std.specs.Coded.{le_prop}
@@ -21,14 +22,14 @@ use Rattle.market_events.specs.declared.requests.Ask.{Ask}
 use Rattle.market_events.specs.declared.requests.Ask.TheVariants as ask
 use Rattle.market_events.specs.declared.requests.Request.{Request}
 use Rattle.market_events.specs.Carts.{changes_taken}
-use Rattle.market_events.specs.Cells.{cells_of, level_cell, held_cell, stock_cells, look_cells}
+use Rattle.market_events.specs.Cells.{cells_of, level_cell, held_cell, stock_cells, look_cells, text_cmp}
 use Rattle.market_events.specs.Copies.{last_some, copy_of}
 use Rattle.market_events.specs.Formed.{key_formed, id_formed, change_formed, line_formed, lines_formed}
 use Rattle.market_events.specs.Orders.{is_taken}
 use Rattle.market_events.specs.Products.{change_in}
 use Rattle.market_events.specs.Requests.{same_key, same_id}
 use Rattle.market_events.specs.Services.{Role, IsRunOf, fits, reserves, is_known}
-use Rattle.market_events.specs.Standing.{Stands, CanTake, step_of, with_step, same_name, is_named, value_of, most_by_ask}
+use Rattle.market_events.specs.Standing.{Stands, CanTake, step_of, with_step, same_name, is_named, value_of, may_change, tables_of, most_by_ask}
 use Rattle.market_events.specs.Steps.{Step, body_on}
 use Rattle.market_events.specs.Stocks.{reservation_in, reservations, first_some, line_refusal, reserve_rows, stock_sums, on_hand}
 use Rattle.market_events.specs.WellFormed.{keys_rise, most_lines}
@@ -40,6 +41,7 @@ use Rattle.market_events.proofs.StandingLaws.{is_run_push, follows_step_of}
 use Rattle.market_events.proofs.StepLaws.{fits-parts, changes_taken-push, changes_taken-same}
 use Rattle.market_events.proofs.StockRuns.{answers-stock, checkout_formed-lines}
 use Rattle.market_events.proofs.StockSteps.{no_reservations}
+use Rattle.market_events.proofs.TouchedTables.{named_none, or_may_change, one_may_change, any_may_change}
 use Rattle.cart_replica.proofs.CopyCells.{look_cells-push, changes_taken-keys}
 use Rattle.stock_service.specs.declared.levels.Act.TheVariants.{Reserve, Sell, Release}
 use Rattle.stock_service.specs.Cells.{copy_name, level_name, held_name, is_touched, asked_names, pieces_text, lines_value}
@@ -305,3 +307,21 @@ changed_differ key = one_distinct (copy_name key)
 pub asked_differ : (what : Ask) → IsDistinct same_name (asked_names what)
 asked_differ (ask.Stock key pieces) = one_distinct (level_name key)
 asked_differ other = none_distinct
+
+-- the cells that a body touches are of tables that it may change
+pub changed_touched : (b : Body) (key q : ProductKey) (version : ℕ) (change : Change) → b ≡ body.Changed key version change → may_change Role.Stock b (copy_name q) ≡ true
+changed_touched b key q version change is = ap (λ x. may_change Role.Stock x (copy_name q)) is
+
+pub asked_touched : (request : Request) (b : Body) → b ≡ body.Asked request → (name : CellName) → is_named (asked_names request.ask) name ≡ true → may_change Role.Stock b name ≡ true
+asked_touched request b is name here = ap (λ x. may_change Role.Stock x name) is ∙ by request.ask here
+  where
+    by : (what : Ask) → is_named (asked_names what) name ≡ true → may_change Role.Stock (body.Asked (record { id = request.id; ask = what })) name ≡ true
+    by (ask.Stock key pieces) named = one_may_change Role.Stock (body.Asked (record { id = request.id; ask = ask.Stock key pieces })) (level_name key) refl name named
+    by other named = named_none name named
+
+-- of a checkout with its lines
+pub lines_touched : (b : Body) → ((table : List ℕ) → list_any (λ t. is_eq (text_cmp t table)) (codes "stock" ∷ codes "held" ∷ []) ≡ list_any (λ t. is_eq (text_cmp t table)) (tables_of Role.Stock b))
+    → (checkout : RequestId) (lines : List PricedLine) (name : CellName) → is_touched checkout lines name ≡ true → may_change Role.Stock b name ≡ true
+lines_touched b tables checkout lines name =
+    or_may_change Role.Stock b name (held_name checkout) (list_any (λ (line : PricedLine). same_name name (level_name line.key)) lines) (sym (tables (codes "held")))
+    (any_may_change Role.Stock b (λ (line : PricedLine). level_name line.key) (λ line. sym (tables (codes "stock"))) name lines)

@@ -7,4 +7,3 @@ pub mod Touched
 pub mod StockCells
 pub mod TableCells
 pub mod Covering
-pub mod Testing

@@ -2,4 +2,3 @@ pub mod Levels
 pub mod Kept
 pub mod Holding
 pub mod Cells
-pub mod Examples

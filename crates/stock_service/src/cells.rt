@@ -1,6 +1,6 @@
 //! Names and values of the cells of stock.
 
-ghost use Rattle.std.specs.Prelude.{◌≡◌, ◌+◌, ◌≤◌, ◌++◌, ◌==◌, [], ◌∷◌, if◌then◌else◌, List, length, map, codes, IfOk, IfSome, OnOk};
+ghost use Rattle.std.specs.Prelude.{◌≡◌, ◌+◌, ◌≤◌, ◌++◌, ◌==◌, [], ◌∷◌, if◌then◌else◌, List, length, map, codes, IfOk, IfSome, OnOk, true, unwrap_or};
 ghost use Rattle.std.specs.List.{IsDistinct, join_with_byte};
 ghost use Rattle.std.specs.Option.{option_or};
 ghost use Rattle.market_events.specs.declared.bodies.PricedLine.{PricedLine};
@@ -292,6 +292,8 @@ pub fn held_names(
     checkout: CheckoutId,
 ) -> Result<Vec<CellName>, AllocError>
     ensures named { IfOk result (λ names. IfSome (lines_at held.now.entries checkout) (λ lines. (name : CellName) → is_named names.items name ≡ is_touched checkout lines name)) }
+    ensures only { IfOk result (λ names. (name : CellName) → is_named names.items name ≡ true
+        → is_touched checkout (unwrap_or (lines_at held.now.entries checkout) []) name ≡ true) }
     ensures differ { IfOk result (λ names. IsDistinct same_name names.items) }
     ensures few { IfOk result (λ names. IfSome (lines_at held.now.entries checkout) (λ lines. length names.items ≤ length lines + 1)) }
 {

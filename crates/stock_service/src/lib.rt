@@ -9,8 +9,6 @@ mod levels;
 mod reserving;
 mod stocking;
 mod stocks;
-#[cfg(test)]
-mod tests;
 
 pub use level::Level;
 pub use stocks::Stocks;

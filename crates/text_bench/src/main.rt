@@ -5,7 +5,8 @@
 
 ghost use Rattle.market_events.specs.WellFormed.{IsBody};
 
-use market_events::{Body, BodyFault, body_text, read_body};
+use market_events::Body;
+use market_texts::{BodyFault, body_text, read_body};
 use std::alloc::{AllocError, Global};
 use std::env;
 use std::io::Read;

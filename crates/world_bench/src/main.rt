@@ -3,8 +3,8 @@
 //! and how many events were offered.
 #![tactic(auto)]
 
-use market_events::read_request;
 use market_history::Step;
+use market_texts::read_request;
 use market_world::{World, oldest, run_schedule};
 use std::io::Read;
 use std::process::ExitCode;

@@ -1,6 +1,6 @@
 use Rattle.market_events.proofs.CellWords.{key_of_word, read_text, read_ok, read_all, if_some}
 use Rattle.market_events.proofs.FormedLaws.{key_decides}
-use Rattle.market_events.proofs.WordForms.{key_word}
+use Rattle.market_words.proofs.WordNames.{key_word}
 use Rattle.market_events.proofs.cell_names.key_read.Goals as goal
 
 pub returns-clause-is : goal.returns-clause-is

@@ -1,5 +1,5 @@
 -- By what stock took on link 8, and by the balance of what was made, taken and is outstanding on links 4, 5 and 8.
-use Rattle.market_events.proofs.StockRuns.{reserved-le-on_hand}
+use Rattle.market_events.proofs.StockRuns.{reserved-le-on_hand, sold-reserved-le-stocked}
 use Rattle.market_laws.proofs.Listed.{reserved-listed, listed-wait, way-listed}
 use Rattle.market_laws.proofs.laws.reserved_is_listed.Goals as goal
 
@@ -9,4 +9,5 @@ returns f = record {
   waits = λ h lawful. listed-wait h lawful;
   listed = λ h c lawful. way-listed h lawful c;
   covered = reserved-le-on_hand;
+  within = sold-reserved-le-stocked;
 }

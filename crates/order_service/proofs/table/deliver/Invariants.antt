@@ -5,4 +5,5 @@ use Rattle.order_service.proofs.table.deliver.Given as goal
 
 -- the items so far are delivered
 abbrev pub invariant-loop-item : goal.invariant-loop-item
-invariant-loop-item l = (id : RequestId) → order_at l.orders.entries id ≡ with_delivered (item_count id (take l.item-index l.items)) (order_at l.fn.orders.entries id)
+invariant-loop-item l =
+    (id : RequestId) → order_at l.orders.entries id ≡ with_delivered (item_count id (order_at l.fn.orders.entries id) (take l.item-index l.items)) (order_at l.fn.orders.entries id)

@@ -1,9 +1,10 @@
-use Rattle.std.proofs.Common.{◌≡◌, ◌+◌, length, take, count_by, ap, ap₂, ◌∙◌, arith}
+use Rattle.std.proofs.Common.{◌≡◌, ◌+◌, length, take, count_by, ap, ap₂, ◌∙◌, codes, arith}
+use Rattle.market_events.specs.declared.cells.CellName.{CellName}
 use Rattle.market_events.specs.Sellers.{SellerChange}
 use Rattle.seller_service.specs.declared.cells.Place.TheVariants as place
 use Rattle.seller_service.specs.Cells.{place_name}
 use Rattle.seller_service.specs.Kept.{changes_at, is_of_seller}
-use Rattle.seller_service.proofs.Putting.{named-next, named-stay}
+use Rattle.seller_service.proofs.Putting.{named-next, named-stay, tables-next}
 use Rattle.seller_service.proofs.cells.put_change_names.Goals as goal
 
 pub loop-index-preserved : goal.loop-index-preserved
@@ -16,5 +17,6 @@ loop-index-preserved c =
           (c.in_ok-name_of.ensures ∙ ap₂ (λ s n. place_name (place.Change s (n + 1))) seller (ap₂ (λ a b. a + b) (ap length c.changes_of.ensures ∙ ap (λ s. length (changes_at c.args.ledgers.now.entries s)) seller)
           (c.count_of.ensures ∙ ap (λ s. count_by (is_of_seller s) (take c.loop-index.index c.args.changes.now)) seller))) c.in_ok-put.ensures.named c.loop-index.invariant.named;
       stay = λ name was. named-stay c.loop-index.names c.put.new.self c.in_ok-name_of.field-0 name c.in_ok-put.ensures.named (c.loop-index.invariant.stay name was);
+      tables = tables-next c.loop-index.names c.put.new.self c.in_ok-name_of.field-0 (codes "change") (ap (λ (n : CellName). n.table) c.in_ok-name_of.ensures) c.in_ok-put.ensures.named _ c.loop-index.invariant.tables;
       few = omega (arith, c.in_ok-put.ensures.few, c.loop-index.invariant.few);
     }

@@ -1,4 +1,4 @@
-use Rattle.std.proofs.Common.{◌≡◌, ℕ, ◌+◌, ◌<◌, ◌≤◌, true, take, length, count_by}
+use Rattle.std.proofs.Common.{◌≡◌, ℕ, ◌+◌, ◌<◌, ◌≤◌, ◌⊎◌, true, take, length, count_by, codes}
 use Rattle.market_events.specs.declared.cells.CellName.{CellName}
 use Rattle.market_events.specs.Sellers.{entries_at}
 use Rattle.market_events.specs.Standing.{is_named}
@@ -12,5 +12,6 @@ invariant-loop-index l = record {
   named : (seller number : ℕ) → length (entries_at (changes_at l.ledgers.entries seller)) < number → number ≤ length (entries_at (changes_at l.ledgers.entries seller)) + count_by (is_of_seller seller) (take l.index l.changes)
       → is_named l.names (place_name (place.Entry seller number)) ≡ true;
   stay : (name : CellName) → is_named l.fn.names name ≡ true → is_named l.names name ≡ true;
+  tables : (name : CellName) → is_named l.names name ≡ true → (is_named l.fn.names name ≡ true) ⊎ (name.table ≡ codes "entry");
   few : length l.names ≤ length l.fn.names + l.index;
 }

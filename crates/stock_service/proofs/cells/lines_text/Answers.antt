@@ -1,7 +1,7 @@
 use Rattle.std.proofs.Common.{arith}
 use Rattle.std.proofs.lemmas.Grind.{common_steps}
 use Rattle.market_events.specs.Cells.{held_line}
-use Rattle.market_events.proofs.Writing.{joined_more}
+use Rattle.market_words.proofs.Joining.{joined_more}
 use Rattle.stock_service.proofs.cells.lines_text.Goals as goal
 
 pub loop-index-preserved : goal.loop-index-preserved

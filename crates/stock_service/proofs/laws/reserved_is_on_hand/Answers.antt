@@ -1,6 +1,6 @@
 -- Step by step.
-use Rattle.market_events.proofs.StockRuns.{reserved-le-on_hand}
+use Rattle.market_events.proofs.StockRuns.{reserved-le-on_hand, sold-reserved-le-stocked}
 use Rattle.stock_service.proofs.laws.reserved_is_on_hand.Goals as goal
 
 pub returns : goal.returns
-returns c = reserved-le-on_hand
+returns c = record { covered = reserved-le-on_hand; within = sold-reserved-le-stocked }

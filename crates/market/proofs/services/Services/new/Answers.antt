@@ -33,7 +33,7 @@ returns c = record {
     products = record { changes = refl };
     carts = record { changes = refl; baskets = λ customer key. refl };
     stocks = record { changes = refl; stocked = λ key. refl; sold = λ key. refl; settled = refl };
-    orders = record { known = λ id. refl; lines = λ id. refl; total = λ id. refl; failed = λ id. refl; shipped = λ id. refl; items = refl };
+    orders = record { known = λ id. refl; orders = λ id. refl; total = λ id. refl; failed = λ id. refl; shipped = λ id. refl; items = refl };
     payments = record { limit = λ customer. refl; spent = λ customer. refl };
     shipments = record { packed = refl; items = refl; apart = refl };
     customers = record { confirmed = λ customer. refl; failed = λ customer. refl; items = refl };

@@ -6,24 +6,31 @@ use Rattle.market_events.specs.declared.events.Offer.TheVariants as offer
 use Rattle.market_events.specs.declared.events.What.TheVariants.{Taken}
 use Rattle.market_events.specs.declared.replies.Reply.{Reply}
 use Rattle.market_events.specs.contracts.events.Offer.{the_type}
+use Rattle.market_events.specs.Carried.{carries}
 use Rattle.market_events.specs.Offers.{offer_of}
 use Rattle.market_history.specs.Blocks.{Out, with_out, with_what}
 use Rattle.market_history.specs.Causality.{events_taken}
 use Rattle.market_history.specs.Journals.{IsLane}
 use Rattle.market_history.specs.Stamps.{clock_before}
 use Rattle.market_history.proofs.CoreGrow.{grow-told}
+use Rattle.market_history.proofs.ReplyLaws.{told-kept}
 use Rattle.market_node.specs.Cores.{CoreState, with_entries}
 use Rattle.market_node.specs.Keeping.{IsAwaitedBy, is_awaited}
 use Rattle.market_node.specs.Records.{RecordState}
 use Rattle.market_node.proofs.LaneLaws.{answers, clock_moved, moved, not_so}
 use Rattle.market_node.proofs.lane_core.LaneCore.take.Goals as goal
 
+pub answer-requires-clause-kept : goal.answer-requires-clause-kept
+answer-requires-clause-kept c =
+    let told : c.args.event.now.body ≡ body.Told c.in-Some.id c.in_ok-reply.reply = c.in-Some.ensures.some ∙ ap (λ (r : Reply). body.Told c.in-Some.id r) (sym c.in_ok-reply.ensures) in
+    told-kept c.args.event.now.link c.in-Some.id c.in_ok-reply.reply (subst (λ b. carries c.args.event.now.link b ≡ true) told c.requires.arrives.carried)
+
 pub answer-requires-clause-clock : goal.answer-requires-clause-clock
 answer-requires-clause-clock c =
     let risen = clock_moved c.self.inside.recorder c.reserve.new.self c.take.new.self (Taken c.in_ok-taken.taken) _ _ c.in_ok-reserve.ensures.ok c.take.ensures in
     let seen = ap (λ (s : CoreState). clock_before s.entries) c.self.view_is in
     let same = ap (λ (e : Event). e.clock) c.in_ok-taken.ensures in
-    let low = c.requires.clock in
+    let low = c.requires.arrives.clock in
     omega arith
 
 pub invariant_of-self-2 : goal.invariant_of-self-2

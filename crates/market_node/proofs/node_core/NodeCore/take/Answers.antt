@@ -31,7 +31,7 @@ make_all-requires-clause-clock g c =
     let it : TookIt c.self.inside.recorder c.reserve.new.self c.take.new.self c.args.event.now c.in_ok-taken.taken (max c.self.inside.recorder.room 9) (c.reserve.new.self.room - 1) = record { held_is = c.in_ok-reserve.ensures.ok; taken_is = c.in_ok-taken.ensures; took_is = c.take.ensures } in
     let can = can_make_all role holds old c.self.inside.service event.link event.body c.accept.new.outs c.self.invariant fit made in
     let before : clock_before c.self.inside.recorder.entries ≡ clock_before c.args.self.now.entries = ap (λ (s : CoreState). clock_before s.entries) c.self.view_is in
-    omega (arith, can.few, c.requires.clock, took_clock old c.reserve.new.self c.take.new.self event c.in_ok-taken.taken (max old.room 9) (c.reserve.new.self.room - 1) it)
+    omega (arith, can.few, c.requires.arrives.clock, took_clock old c.reserve.new.self c.take.new.self event c.in_ok-taken.taken (max old.room 9) (c.reserve.new.self.room - 1) it)
 
 pub invariant_of-self-2 : goal.invariant_of-self-2
 invariant_of-self-2 g c =

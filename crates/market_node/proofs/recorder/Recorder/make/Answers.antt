@@ -1,10 +1,12 @@
 use Rattle.std.proofs.Common.{◌≡◌, ◌+◌, ◌-◌, ◌≤◌, ◌^◌, List, [], ◌∷◌, ◌++◌, length, slice_set, refl, ap, subst, sym, ◌∙◌, arith}
 use Rattle.market_events.specs.declared.events.Entry.{Entry}
 use Rattle.market_events.specs.declared.events.What.TheVariants.{Made}
+use Rattle.market_events.specs.Counts.{AreCounts}
 use Rattle.market_events.specs.Links.{sender_of}
 use Rattle.market_history.specs.Blocks.{with_what, next_event}
 use Rattle.market_history.specs.Stamps.{clock_before}
 use Rattle.market_history.proofs.CoreEntries.{length-sent}
+use Rattle.market_history.proofs.PastCounts.{journal-counts}
 use Rattle.market_node.specs.Notes.{at_slot, HaveRoom}
 use Rattle.market_node.specs.PlaceStates.{PlaceState}
 use Rattle.market_node.specs.Records.{RecordState}
@@ -49,6 +51,7 @@ write-requires-clause-entry c =
     made_entry old.journal.node old.journal.entries (old.clock + 1) (c.len.result + 1) c.args.link old.known c.args.body c.self.invariant.node_high (omega (arith, c.requires.few)) low
     (ap (λ n. n + 1) (noted_count old.journal.node old.journal.entries old.clock old.known old.received.services old.received.receivers old.lists c.args.link c.slot_at_sender-slot.result c.len.result
     c.self.invariant.notes c.requires.link from c.slot_at_sender-slot.ensures.value c.len.ensures))
+    (subst AreCounts (sym c.self.invariant.notes.known) (journal-counts old.journal.node old.journal.entries c.entries.ensures.journal))
     c.requires.link from c.requires.carried c.requires.formed c.requires.own
 
 pub invariant_of-self : goal.invariant_of-self

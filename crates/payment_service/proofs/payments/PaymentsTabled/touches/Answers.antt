@@ -1,7 +1,9 @@
 use Rattle.std.proofs.Common.{[], ◌∷◌, map, ap, sym, ◌∙◌}
 use Rattle.std.specs.List.{cons_option}
+use Rattle.market_events.specs.Services.{Role}
+use Rattle.market_events.proofs.TouchedTables.{none_touched, one_touched}
 use Rattle.payment_service.specs.AccountCells.{name_by}
-use Rattle.payment_service.proofs.Told.{covers, one_distinct, none_distinct}
+use Rattle.payment_service.proofs.Told.{covers, one_distinct, none_distinct, touched}
 use Rattle.payment_service.proofs.payments.PaymentsTabled.touches.Goals as goal
 
 pub returns-in_default-clause-covers : goal.returns-in_default-clause-covers
@@ -18,3 +20,11 @@ returns-clause-covers c =
 
 pub returns-clause-differ : goal.returns-clause-differ
 returns-clause-differ c = rw c.in_ok-vec.ensures.items (one_distinct c.in_ok-name.name)
+
+pub returns-in_default-clause-tables : goal.returns-in_default-clause-tables
+returns-in_default-clause-tables c = none_touched Role.Payment c.args.body.now c.new.result.items c.new.ensures.items
+
+pub returns-clause-tables : goal.returns-clause-tables
+returns-clause-tables c =
+    one_touched Role.Payment c.args.body.now c.in_ok-vec.field-0.items (name_by c.in-Some.customer)
+    (c.in_ok-vec.ensures.items ∙ ap (λ name. name ∷ []) c.in_ok-name.ensures) (touched c.args.body.now c.in-Some.customer (sym c.in-Some.ensures))

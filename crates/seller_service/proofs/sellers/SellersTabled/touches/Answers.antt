@@ -1,13 +1,16 @@
-use Rattle.std.proofs.Common.{◌≡◌, ℕ, ◌+◌, ◌≤◌, ◌<◌, true, length, count_by, ap, sym, subst, ◌∙◌, arith}
+use Rattle.std.proofs.Common.{◌≡◌, ℕ, ◌+◌, ◌≤◌, ◌<◌, ◌⊎◌, inl, inr, true, length, codes, count_by, ap, sym, subst, ◌∙◌, arith}
+use Rattle.market_events.specs.declared.cells.CellName.{CellName}
 use Rattle.market_events.specs.Sellers.{entries_at}
-use Rattle.market_events.specs.Standing.{is_named, most_touched}
+use Rattle.market_events.specs.Services.{Role}
+use Rattle.market_events.specs.Standing.{is_named, may_change, most_touched}
 use Rattle.market_events.proofs.KeyedCells.{if_ok}
+use Rattle.market_events.proofs.TouchedTables.{named_none}
 use Rattle.seller_service.specs.declared.cells.Place.TheVariants as place
 use Rattle.seller_service.specs.Cells.{place_name}
 use Rattle.seller_service.specs.Kept.{Kept, changes_at, lines_at, is_of_seller, brought_by}
 use Rattle.seller_service.proofs.Joining.{few_changes, can_stands}
 use Rattle.seller_service.proofs.SellerCells.{AreTold, covers}
-use Rattle.seller_service.proofs.Touching.{few_brought, no_entries, told_changes, told_both}
+use Rattle.seller_service.proofs.Touching.{few_brought, no_entries, told_changes, told_both, entry_touched, change_touched}
 use Rattle.seller_service.proofs.sellers.SellersTabled.touches.Goals as goal
 use Rattle.seller_service.proofs.sellers.SellersTabled.touches.Goals.{in-Invoice+in_ok-put_entry_names, in_default}
 
@@ -94,3 +97,41 @@ few c =
 
 pub returns-clause-few : goal.returns-clause-few
 returns-clause-few c = if_ok (λ names e. omega (arith, names.ok.0, ap length e, few c)) c.into_names.result c.into_names.ensures.is
+
+-- a name of the changes is of a table that the body may change
+changed : (c : goal.After-drop-changes-2) (name : CellName) → is_named c.put_change_names.new.names name ≡ true → may_change Role.Seller c.args.body.now name ≡ true
+changed c name here =
+    by (c.in_ok-put_change_names.ensures.tables name here)
+  where
+    none : is_named c.new-names.result name ≡ true → may_change Role.Seller c.args.body.now name ≡ true
+    none before = named_none name (sym (ap (λ ns. is_named ns name) c.new-names.ensures) ∙ before)
+
+    by : (is_named c.new-names.result name ≡ true) ⊎ (name.table ≡ codes "change") → may_change Role.Seller c.args.body.now name ≡ true
+    by (inl before) = none before
+    by (inr table) =
+        change_touched (lines_at c.self.inside.invoices.entries) c.args.body.now c.put_change_names.new.names
+        (omega (
+          arith,
+          ap length c.new-names.ensures,
+          c.in_ok-put_change_names.ensures.few,
+          ap length (c.as_slice.ensures.value ∙ c.in_ok-changes.ensures),
+        ))
+        name here table
+
+-- each is of such a table
+tabled : (c : goal.After-drop-changes-2) (name : CellName) → is_named c.match-body.names name ≡ true → may_change Role.Seller c.args.body.now name ≡ true
+tabled c name here =
+    elim c.match-body.branch [
+      | in-Invoice+in_ok-put_entry_names w ↦
+          either (w.in_ok-put_entry_names.ensures.tables name (sym (ap (λ ns. is_named ns name) w.names-is) ∙ here))
+          (changed c name)
+          (entry_touched c.args.body.now w.in-Invoice.field-0 w.in-Invoice.field-1 w.in-Invoice.field-2 w.in-Invoice.field-3 w.in-Invoice.is name)
+      | in_default w ↦ changed c name (sym (ap (λ ns. is_named ns name) w.names-is) ∙ here)
+    ]
+  where
+    either : {A B C : Type 0} → A ⊎ B → (A → C) → (B → C) → C
+    either (inl x) f g = f x
+    either (inr y) f g = g y
+
+pub returns-clause-tables : goal.returns-clause-tables
+returns-clause-tables c = if_ok (λ names e name here. tabled c name (sym (ap (λ ns. is_named ns name) e) ∙ here)) c.into_names.result c.into_names.ensures.is

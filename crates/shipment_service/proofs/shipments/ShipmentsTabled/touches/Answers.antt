@@ -1,19 +1,21 @@
 use Rattle.std.proofs.Common.{◌≡◌, ◌+◌, ◌≤◌, None, length, map, ap, ap₂, sym, subst, ◌∙◌, arith}
 use Rattle.std.proofs.Math.Logic.{∥∥₁_elim}
 use Rattle.std.specs.Coded.{le_prop}
-use Rattle.std.specs.List.{IsDistinct}
+use Rattle.std.specs.List.{IsDistinct, range_with_len}
+use Rattle.market_events.specs.Services.{Role}
 use Rattle.std.specs.Map.{keys_of}
 use Rattle.std.proofs.lemmas.List.{length-map}
 use Rattle.std.proofs.lemmas.List.FromFn.{length-range_with_len}
 use Rattle.std.proofs.lemmas.Map.Keys.{IsDistinct-prop}
 use Rattle.market_events.specs.Shipments.{packages_in, shipment_rows, shipment_sums}
-use Rattle.market_events.specs.Standing.{same_name, most_touched, most_by_ask}
+use Rattle.market_events.specs.Standing.{same_name, is_named, may_change, most_touched, most_by_ask}
 use Rattle.market_events.proofs.KeyedCells.{if_ok}
+use Rattle.market_events.proofs.TouchedTables.{none_touched, map_may_change}
 use Rattle.shipment_service.specs.Cells.{name_by, names_from}
 use Rattle.shipment_service.specs.Waiting.{put_at, groups_of}
 use Rattle.shipment_service.proofs.Joining.{room, taken-few, quiet-asked, no_other}
 use Rattle.shipment_service.proofs.PackageCells.{none-differ, names-length}
-use Rattle.shipment_service.proofs.Touched.{payment-covers, delivery-covers, quiet-covers, taken-differ, lines-few, picked-by}
+use Rattle.shipment_service.proofs.Touched.{payment-covers, delivery-covers, quiet-covers, taken-differ, lines-few, picked-by, delivering-touched}
 use Rattle.shipment_service.proofs.shipments.ShipmentsTabled.touches.Goals as goal
 
 pub names_behind-requires : goal.names_behind-requires
@@ -98,6 +100,7 @@ returns-in_default-ask c =
       covers = λ steps stands fit.
           quiet-covers self.packages.items self.queues.entries self.oldest.entries steps stands.run stands.held c.args._from c.args.body.now fit (ap packages_in c.in-Asked.is)
           (ap (shipment_rows (shipment_sums steps)) c.in-Asked.is ∙ quiet-asked steps c.in-Asked.request c.in_default-ask.not-Deliver) _;
+      tables = none_touched Role.Shipment c.args.body.now c.new.result.items c.new.ensures.items;
       differ = rw c.new.ensures.items none-differ;
       few = omega arith;
     }
@@ -105,6 +108,21 @@ returns-in_default-ask c =
 pub returns-in_default : goal.returns-in_default
 returns-in_default c = record {
   covers = λ steps stands fit. absurd (no_other steps c.args._from c.args.body.now fit c.in_default.not-Asked c.in_default.not-Confirmed);
+  tables = none_touched Role.Shipment c.args.body.now c.new-in_default.result.items c.new-in_default.ensures.items;
   differ = rw c.new-in_default.ensures.items none-differ;
   few = omega arith;
 }
+
+pub returns-in-Confirmed-clause-tables : goal.returns-in-Confirmed-clause-tables
+returns-in-Confirmed-clause-tables c =
+    if_ok (λ names e name here.
+    map_may_change Role.Shipment c.args.body.now name_by (λ n. ap (λ b. may_change Role.Shipment b (name_by n)) c.in-Confirmed.is) name
+    (range_with_len (c.len.result + 1) (length c.as_slice.result.now)) (sym (ap (λ ns. is_named ns name) e) ∙ here))
+    c.names_behind.result c.names_behind.ensures.named
+
+pub returns-in_ok-picked-in-Deliver-clause-tables : goal.returns-in_ok-picked-in-Deliver-clause-tables
+returns-in_ok-picked-in-Deliver-clause-tables c =
+    if_ok (λ names e name here.
+    map_may_change Role.Shipment c.args.body.now name_by (delivering-touched c.args.body.now c.in-Asked.request c.in-Asked.is c.in-Deliver.is) name
+    (keys_of c.in_ok-picked-in-Deliver.picked.entries) (sym (ap (λ ns. is_named ns name) e) ∙ here))
+    c.names_of.result c.names_of.ensures.named

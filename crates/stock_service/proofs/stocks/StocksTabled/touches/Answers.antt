@@ -1,9 +1,13 @@
 use Rattle.std.proofs.Common.{◌≤◌, ◌+◌, ◌∙◌, length, ap, sym, subst, arith}
-use Rattle.std.specs.List.{IsDistinct}
-use Rattle.market_events.specs.Standing.{same_name, most_touched}
+use Rattle.std.specs.List.{IsDistinct, list_any}
+use Rattle.std.specs.Ordering.{is_eq}
+use Rattle.market_events.specs.Cells.{text_cmp}
+use Rattle.market_events.specs.Services.{Role}
+use Rattle.market_events.specs.Standing.{same_name, is_named, tables_of, most_touched}
 use Rattle.market_events.proofs.KeyedCells.{if_ok}
-use Rattle.stock_service.specs.Cells.{is_touched}
-use Rattle.stock_service.proofs.Covering.{changed_covers, asked_covers, reserve_covers, confirmed_covers, failed_covers, reserve_few, confirmed_few, failed_few, asked_few, changed_differ, asked_differ}
+use Rattle.market_events.proofs.TouchedTables.{one_touched}
+use Rattle.stock_service.specs.Cells.{copy_name, is_touched}
+use Rattle.stock_service.proofs.Covering.{changed_covers, asked_covers, reserve_covers, confirmed_covers, failed_covers, reserve_few, confirmed_few, failed_few, asked_few, changed_differ, asked_differ, changed_touched, asked_touched, lines_touched}
 use Rattle.stock_service.proofs.Joining.{no_other}
 use Rattle.stock_service.proofs.stocks.StocksTabled.touches.Goals as goal
 
@@ -86,3 +90,33 @@ returns-in-Failed-clause-few c =
       failed_few c.args.self.now c.args._from c.args.body.now c.in-Failed.checkout c.in-Failed.field-1 c.in-Failed.field-2 c.in-Failed.is c.requires (length names.items) few,
     ))
     c.held_names-in-Failed.result c.held_names-in-Failed.ensures.few
+
+pub returns-in-Changed-clause-tables : goal.returns-in-Changed-clause-tables
+returns-in-Changed-clause-tables c =
+    if_ok (λ names are. one_touched Role.Stock c.args.body.now names.items (copy_name c.in-Changed.key) are
+    (changed_touched c.args.body.now c.in-Changed.key c.in-Changed.key c.in-Changed.field-1 c.in-Changed.field-2 c.in-Changed.is))
+    c.changed_names.result c.changed_names.ensures
+
+pub returns-in-Asked-clause-tables : goal.returns-in-Asked-clause-tables
+returns-in-Asked-clause-tables c =
+    if_ok (λ names are name here.
+    asked_touched c.in-Asked.request c.args.body.now c.in-Asked.is name (sym (ap (λ ns. is_named ns name) are) ∙ here))
+    c.asked_names.result c.asked_names.ensures
+
+pub returns-in-Reserve-clause-tables : goal.returns-in-Reserve-clause-tables
+returns-in-Reserve-clause-tables c =
+    if_ok (λ names named name here.
+    lines_touched c.args.body.now (λ table. sym (ap (λ b. list_any (λ t. is_eq (text_cmp t table)) (tables_of Role.Stock b)) c.in-Reserve.is)) c.in-Reserve.checkout c.as_slice.result.now name (sym (named name) ∙ here))
+    c.names_of.result c.names_of.ensures.named
+
+pub returns-in-Confirmed-clause-tables : goal.returns-in-Confirmed-clause-tables
+returns-in-Confirmed-clause-tables c =
+    if_ok (λ names only name here.
+    lines_touched c.args.body.now (λ table. sym (ap (λ b. list_any (λ t. is_eq (text_cmp t table)) (tables_of Role.Stock b)) c.in-Confirmed.is)) c.in-Confirmed.checkout _ name (only name here))
+    c.held_names.result c.held_names.ensures.only
+
+pub returns-in-Failed-clause-tables : goal.returns-in-Failed-clause-tables
+returns-in-Failed-clause-tables c =
+    if_ok (λ names only name here.
+    lines_touched c.args.body.now (λ table. sym (ap (λ b. list_any (λ t. is_eq (text_cmp t table)) (tables_of Role.Stock b)) c.in-Failed.is)) c.in-Failed.checkout _ name (only name here))
+    c.held_names-in-Failed.result c.held_names-in-Failed.ensures.only

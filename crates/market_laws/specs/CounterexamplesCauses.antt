@@ -1,0 +1,61 @@
+-- Histories in which a checkout's events were made twice, or with no cause.
+use Rattle.std.specs.Prelude.{◌≡◌, ◌≤◌, true, List, [], ◌∷◌, ◌++◌}
+use Rattle.market_events.specs.declared.bodies.Body.{Body}
+use Rattle.market_events.specs.declared.bodies.Body.TheVariants as body
+use Rattle.market_events.specs.declared.bodies.Ending.TheVariants as ending
+use Rattle.market_events.specs.declared.events.Entry.{Entry}
+use Rattle.market_events.specs.declared.links.Link.{Link}
+use Rattle.market_events.specs.declared.links.Link.TheVariants.{Service, Asked, Told}
+use Rattle.market_events.specs.declared.replies.Reply.TheVariants as reply
+use Rattle.market_events.specs.declared.requests.Ask.TheVariants as ask
+use Rattle.market_history.specs.Checkouts.{is_kept_checkout}
+use Rattle.market_history.specs.Examples.{id, request, event, given, made}
+use Rattle.market_history.specs.ExamplesCreate.{past}
+use Rattle.market_history.specs.Histories.{Histories, with_journal}
+use Rattle.market_history.specs.Lawful.{IsLawful}
+use Rattle.market_laws.specs.Causes.{ReservesHaveCauses, StockAnswersHaveCauses, InvoicesHaveCauses, PaymentsHaveCauses, ShipmentsHaveCauses, EndingsHaveCauses, TellingsHaveCauses, DeliveriesHaveCauses, all_made_for}
+use Rattle.market_laws.specs.CounterexampleValues.{checkout_for, reserve_for, held_for, invoice_for, paid_with, shipped, delivered}
+use Rattle.market_laws.specs.CounterexamplesHistories.{of_one}
+
+-- the body is made twice on the link
+abbrev pub twice : Link → Body → List Entry
+twice link b = made (event link 1 1 (past 0 0) b) ∷ made (event link 2 2 (past 0 0) b) ∷ []
+
+-- a checkout is asked for once, and all that follows is made twice
+abbrev pub requested : Histories
+requested =
+    of_one 15 (given 1 (request 5 (ask.Checkout 7))
+    ∷ made (event (Asked 7 0) 1 2 (past 0 0) (checkout_for 7)) ∷ [])
+
+abbrev pub ordered : Histories
+ordered =
+    with_journal (with_journal (with_journal requested
+    0 (twice (Service 2) (reserve_for 7) ++ twice (Told 0 7) (body.Told (id 5) (reply.Whole 1950))))
+    2 (twice (Service 4) (held_for 7)))
+    3 (twice (Service 6) (invoice_for 7) ++ twice (Service 7) (body.Ended (id 5) (ending.Whole 1950)))
+
+abbrev pub made_twice : Histories
+made_twice =
+    with_journal (with_journal ordered
+    4 (twice (Service 8) (paid_with 1950)))
+    5 (twice (Service 14) shipped ++ twice (Service 15) delivered)
+
+-- a checkout is sent on, once and with no request
+abbrev pub uncaused : Histories
+uncaused = of_one 0 (made (event (Service 2) 1 1 (past 0 0) (reserve_for 7)) ∷ [])
+
+-- events_have_causes
+pub record CauseCounterexamples : Type 0 where
+  pub uncaused_unlawful : IsLawful uncaused → ⊥
+  pub uncaused_reserve : ReservesHaveCauses uncaused (id 5) → ⊥
+  pub twice_unlawful : IsLawful made_twice → ⊥
+  pub twice_kept : is_kept_checkout made_twice (id 5) ≡ true
+  pub reserves : ReservesHaveCauses made_twice (id 5) → ⊥
+  pub stock_answers : StockAnswersHaveCauses made_twice (id 5) → ⊥
+  pub invoices : InvoicesHaveCauses made_twice (id 5) → ⊥
+  pub payments : PaymentsHaveCauses made_twice (id 5) → ⊥
+  pub shipments : ShipmentsHaveCauses made_twice (id 5) → ⊥
+  pub endings : EndingsHaveCauses made_twice (id 5) → ⊥
+  pub tellings : TellingsHaveCauses made_twice (id 5) → ⊥
+  pub deliveries : DeliveriesHaveCauses made_twice (id 5) → ⊥
+  pub few : (all_made_for made_twice (id 5) ≤ 14) → ⊥

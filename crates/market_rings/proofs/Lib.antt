@@ -1,0 +1,5 @@
+pub mod Holding
+pub mod Linking
+pub mod Sending
+pub mod Wired
+pub mod Taking

@@ -1,0 +1,8 @@
+pub mod Fates
+pub mod LinkEnds
+pub mod NodeEnds
+pub mod Pushes
+pub mod RingEnds
+pub mod Slots
+pub mod Views
+pub mod Wiring

@@ -1,0 +1,127 @@
+//! Fates: what becomes of the packets that are sent.
+
+ghost use Rattle.std.specs.Prelude.{◌≡◌, [], length, slice_index_or, slice_set};
+ghost use Rattle.market_rings.specs.Fates.{fates_at, with_fates};
+ghost use Rattle.market_rings.specs.Pushes.{next_fate, fates_after_one};
+ghost use Rattle.market_rings.specs.Slots.{slots};
+
+use std::marker::Model;
+
+/// The two ways of a link.
+#[derive(Clone, Copy, Debug, PartialEq, Eq)]
+pub enum Way {
+    /// From the sender to the receiver: events.
+    Carry,
+    /// From the receiver to the sender: counts of the events that were taken.
+    Ack,
+}
+
+/// What becomes of a packet that is sent.
+#[derive(Clone, Copy, Debug, PartialEq, Eq)]
+pub enum Fate {
+    /// It is pushed once.
+    Pass,
+    /// It is not pushed.
+    Lose,
+    /// It is pushed twice.
+    Twice,
+    /// It is pushed when packets are sent next on its ring, after those, and meets no further fate.
+    Hold,
+}
+
+/// The fates that are still to be used, in order. Contracts see the list of them.
+#[derive(Debug, Drop)]
+pub struct FateList {
+    fates: Vec<Fate>,
+    // The first `used` of them were used.
+    used: usize,
+}
+
+impl Model for FateList {
+    ghost use Rattle.std.specs.Prelude.{List, ◌≤◌, drop, vec_len};
+    ghost use Rattle.market_rings.specs.declared.fates.Fate.{Fate};
+
+    ghost Value = { List Fate };
+
+    ghost view = { λ list. drop list.used list.fates.items };
+
+    ghost invariant = { λ list. list.used ≤ vec_len list.fates };
+}
+
+impl FateList {
+    /// These fates, none of which was used.
+    pub fn new(fates: Vec<Fate>) -> FateList
+        ensures { result ≡ fates.items }
+    {
+        FateList { fates, used: 0 }
+    }
+
+    /// Uses the next fate: Pass, where none is left.
+    pub fn next(&mut self) -> Fate
+        ensures next { result ≡ next_fate self.old }
+        ensures left { self.new ≡ fates_after_one self.old }
+    {
+        match self.fates.get(self.used) {
+            Some(fate) => {
+                let fate = *fate;
+                self.used += 1;
+                fate
+            }
+            None => Fate::Pass,
+        }
+    }
+}
+
+/// The fates that a node has still to use: a list for each link out of it and a list for each link into it,
+/// by slot. Contracts see the two lists of lists.
+#[derive(Debug, Drop)]
+pub struct Fates {
+    pub(crate) carry: Vec<FateList>,
+    pub(crate) ack: Vec<FateList>,
+}
+
+impl Model for Fates {
+    ghost use Rattle.std.specs.Prelude.{◌≡◌, length};
+    ghost use Rattle.market_rings.specs.Slots.{slots};
+    ghost use Rattle.market_rings.specs.Fates.{FatesLeft};
+
+    ghost Value = { FatesLeft };
+
+    ghost view = { λ fates. record { carry = fates.carry.items; ack = fates.ack.items } };
+
+    ghost invariant = { λ fates. (length fates.carry.items ≡ slots) × (length fates.ack.items ≡ slots) };
+}
+
+impl Fates {
+    /// The fates of events, by the slot of the link out of the node, and of counts, by the slot of the link
+    /// into it. It requires a list for each slot.
+    pub fn new(carry: Vec<FateList>, ack: Vec<FateList>) -> Fates
+        requires carry { length carry.items ≡ slots }
+        requires ack { length ack.items ≡ slots }
+        ensures { result ≡ record { carry = carry.items; ack = ack.items } }
+    {
+        Fates { carry, ack }
+    }
+
+    /// Uses the next fate of a slot: Pass, where none is left.
+    pub fn next(&mut self, way: Way, slot: usize) -> Fate
+        ensures next { result ≡ next_fate (fates_at self.old way slot) }
+        ensures left { self.new ≡ with_fates self.old way slot (fates_after_one (fates_at self.old way slot)) }
+    {
+        match way {
+            Way::Carry => next_at(&mut self.carry, slot),
+            Way::Ack => next_at(&mut self.ack, slot),
+        }
+    }
+}
+
+// Uses the next fate of the list with this index: Pass, where none is left or there is no such list.
+fn next_at(lists: &mut [FateList], index: usize) -> Fate
+    ensures next { result ≡ next_fate (slice_index_or lists.old index []) }
+    ensures left { lists.new ≡ slice_set lists.old index (fates_after_one (slice_index_or lists.old index [])) }
+{
+    if index >= lists.len() {
+        return Fate::Pass;
+    }
+    lists[index].next()
+}

@@ -1,0 +1,17 @@
+pub mod FieldCounts
+pub mod WordNumbers
+pub mod WordChoices
+pub mod WordForms
+pub mod WordLaws
+pub mod ReaderLaws
+pub mod ReaderRequests
+pub mod ReaderRows
+pub mod ReaderReplies
+pub mod ReaderBodies
+pub mod TextLaws
+pub mod Writing
+pub mod TextAnswers
+pub mod Endings
+pub mod Gathering
+pub mod Ruled
+pub mod Rows

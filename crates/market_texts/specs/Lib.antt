@@ -1,0 +1,5 @@
+pub mod Reading
+pub mod Readers
+pub mod Cutting
+pub mod Workload
+pub mod FaultTexts
