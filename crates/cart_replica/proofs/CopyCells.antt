@@ -20,21 +20,22 @@ use Rattle.market_events.specs.Cells.{look_text, look_cells, with_value}
 use Rattle.market_events.specs.Copies.{ProductChange, last_some, change_of, price_set, freight_set, look_of, copy_of}
 use Rattle.market_events.specs.Formed.{id_formed, key_formed, change_formed, body_formed}
 use Rattle.market_events.specs.Products.{change_in}
+use Rattle.market_events.specs.Steps.{key_cmp, Step, taken_bodies}
 use Rattle.market_events.specs.Requests.{same_key}
-use Rattle.market_events.specs.Services.{Role, IsRunOf}
+use Rattle.market_events.specs.declared.roles.Role.{Role}
+use Rattle.market_events.specs.Services.{IsRunOf}
 use Rattle.market_events.specs.Standing.{same_name}
-use Rattle.market_events.specs.Steps.{Step, taken_bodies}
 use Rattle.market_events.specs.Texts.{key_text}
 use Rattle.market_events.specs.WellFormed.{IsKey}
-use Rattle.market_events.proofs.CellLaws.{value_at, same_name-same}
-use Rattle.market_events.proofs.CopyLaws.{copy_of-push-other}
-use Rattle.market_events.proofs.FormedLaws.{key_decides}
-use Rattle.market_events.proofs.KeyedCells.{is_among, HasAll, IsFilled, joined_filled, last_filled, key_naming, at_key, at_none, alike, cells_by-same}
-use Rattle.market_events.proofs.KeyLaws.{eq_by_key_cmp}
-use Rattle.market_events.proofs.ListLaws.{and_both, and_from}
-use Rattle.market_events.proofs.SameLaws.{same_key-true}
-use Rattle.market_events.proofs.StepLaws.{taken_formed}
-use Rattle.cart_replica.specs.Copy.{key_cmp, IsCopyOf}
+use Rattle.market_events.proofs.NamedCells.Named.{value_at, same_name-same}
+use Rattle.market_events.proofs.Steps.Copies.{copy_of-push-other}
+use Rattle.market_events.proofs.Values.Formed.{key_decides}
+use Rattle.market_events.proofs.NamedCells.Keyed.{is_among, HasAll, IsFilled, joined_filled, last_filled, key_naming, at_key, at_none, alike, cells_by-same}
+use Rattle.market_events.proofs.Values.Keys.{eq_by_key_cmp}
+use Rattle.market_events.proofs.Values.Lists.{and_both, and_from}
+use Rattle.market_events.proofs.Values.Same.{same_key-true}
+use Rattle.market_events.proofs.Steps.Taken.{taken_formed}
+use Rattle.cart_replica.specs.Copy.{IsCopyOf}
 use Rattle.cart_replica.specs.CopyCells.{text_in, copy_cells, AreKeysFormed}
 
 -- what changes leave of a product, as a text
@@ -51,6 +52,7 @@ cells_from : (table : List ℕ) (changes more : List ProductChange)
 cells_from table changes [] = refl
 cells_from table changes (c ∷ more) = ap (cons_option (with_value table (key_text c.key) (look_text (copy_of changes c.key)))) (cells_from table changes more)
 
+-- the cells of a list of changes are those of the products that it changes
 pub look_cells-by : (table : List ℕ) (changes : List ProductChange) → look_cells table changes ≡ cells_by (key_name table) (text_by changes) (changed_keys changes)
 look_cells-by table changes = cells_from table changes changes
 
@@ -90,6 +92,7 @@ among_formed (c ∷ more) formed key among =
     by true here one rest among = ap key_formed (same_key-true key c.key here) ∙ one
     by false other one rest among = rest (sym (ap (λ b. b || is_among same_key (changed_keys more) key) other) ∙ among)
 
+-- changes of well-formed keys show texts of well-formed keys alone
 pub changes_within : (changes : List ProductChange) → AreKeysFormed changes → Within IsKey (text_by changes)
 changes_within changes formed key some = (key_decides key).0 (among_formed changes formed key (changes_all changes key some))
 
@@ -123,6 +126,7 @@ look_cells-at table changes formed key known =
     ap (last_some (value_at (key_name table key))) (look_cells-by table changes)
     ∙ at_key (key_naming table) (text_by changes) (changes_within changes formed) (changed_keys changes) (changes_all changes) key ((key_decides key).0 known)
 
+-- a name of no well-formed key has no cell
 pub look_cells-none : (table : List ℕ) (changes : List ProductChange) → AreKeysFormed changes → (name : CellName)
     → ((key : ProductKey) → key_formed key ≡ true → name ≡ key_name table key → ⊥) → last_some (value_at name) (look_cells table changes) ≡ None
 look_cells-none table changes formed name other =
@@ -170,10 +174,12 @@ changes_taken-keys role steps run = changes_in-keys (taken_bodies steps) (taken_
 -- what is found at the name of a product
 module _ (entries : List (ProductKey × Look)) (table : List ℕ) (name : CellName) (key : ProductKey) (known : key_formed key ≡ true) (is : name ≡ key_name table key)
     (value : Option (List ℕ)) (shown : value ≡ text_in entries key) where
+  -- the value is that of each key that has the name
   pub found_is : (other : ProductKey) → key_formed other ≡ true → name ≡ key_name table other → value ≡ text_in entries other
   found_is other formed like =
       let naming = key_naming table in shown ∙ ap (text_in entries) (naming.exact key other ((key_decides key).0 known) ((key_decides other).0 formed) (sym is ∙ like))
 
+  -- and that of the cell of whichever changes the entries are the copy of
   pub found_copied : (changes : List ProductChange) → IsCopyOf entries changes → AreKeysFormed changes → value ≡ last_some (value_at name) (look_cells table changes)
   found_copied changes copied formed =
       shown ∙ ap look_text (copied key) ∙ sym (look_cells-at table changes formed key known) ∙ ap (λ n. last_some (value_at n) (look_cells table changes)) (sym is)
@@ -184,6 +190,7 @@ look_filled Unknown = tt
 look_filled (Gone v) = joined_filled 32 (codes "gone") (decimal v) []
 look_filled (Live v price freight) = joined_filled 32 (codes "live") (decimal v) (decimal price ∷ decimal freight ∷ [])
 
+-- so none of the cells is empty
 pub look_cells-filled : (table : List ℕ) (changes : List ProductChange) (name : CellName) → IsFilled (last_some (value_at name) (look_cells table changes))
 look_cells-filled table changes name =
     subst (λ cells. IsFilled (last_some (value_at name) cells)) (sym (look_cells-by table changes))

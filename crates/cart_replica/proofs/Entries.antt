@@ -1,7 +1,5 @@
 -- What the entries show after one of them is set.
-use Rattle.std.proofs.Common.{◌≡◌, ℕ, Bool, true, false, cond, List, [], ◌∷◌, ◌++◌, Option, Some, unwrap_or, ◌==◌, ◌&&◌, refl, ap, sym, ◌∙◌, arith}
-use Rattle.std.proofs.lemmas.Bool.Decides.{nat_tests}
-use Rattle.std.specs.Ordering.{is_eq, nat_cmp, ordering_then}
+use Rattle.std.proofs.Common.{◌≡◌, Bool, true, false, cond, List, [], ◌∷◌, ◌++◌, Option, Some, unwrap_or, refl, ap, sym, ◌∙◌}
 use Rattle.std.specs.BTreeMap.{is_at}
 use Rattle.std.specs.Map.{lookup}
 use Rattle.market_amounts.specs.declared.keys.ProductKey.{ProductKey}
@@ -10,28 +8,11 @@ use Rattle.market_events.specs.declared.changes.Look.TheVariants.{Unknown}
 use Rattle.market_events.specs.Requests.{same_key}
 use Rattle.market_events.specs.Copies.{ProductChange, copy_of}
 use Rattle.market_events.specs.Looks.{can_change, look_after}
-use Rattle.market_events.proofs.CopyLaws.{copy_of-push-same, copy_of-push-other}
-use Rattle.cart_replica.specs.Copy.{key_cmp, look_at, IsCopyOf}
-
--- keys that compare alike are the same
-is_eq-pair : (a b x y : ℕ) → is_eq (ordering_then (nat_cmp a x) (nat_cmp b y)) ≡ ((x == a) && (y == b))
-is_eq-pair a b x y = grind (arith, nat_tests)
-
-is_at-key_cmp : (key other : ProductKey) → is_at (key_cmp key) other ≡ same_key other key
-is_at-key_cmp key other = is_eq-pair key.seller key.product other.seller other.product
-
-same_numbers : (a b x y : ℕ) → ((a == x) && (b == y)) ≡ true → (a ≡ x) × (b ≡ y)
-same_numbers a b x y h = grind (arith, nat_tests)
-
-same_key-true : (a b : ProductKey) → same_key a b ≡ true → a ≡ b
-same_key-true a b h =
-    let both = same_numbers a.seller a.product b.seller b.product h in same_parts both.0 both.1
-  where
-    key : ℕ → ℕ → ProductKey
-    key s p = record { seller = s; product = p }
-
-    same_parts : {s t p q : ℕ} → s ≡ t → p ≡ q → key s p ≡ key t q
-    same_parts e f = cc
+use Rattle.market_events.proofs.Steps.Copies.{copy_of-push-same, copy_of-push-other}
+use Rattle.market_events.proofs.Values.Keys.{eq_by_key_cmp}
+use Rattle.market_events.proofs.Values.Same.{same_key-true, same_key-swap}
+use Rattle.market_events.specs.Steps.{key_cmp}
+use Rattle.cart_replica.specs.Copy.{look_at, IsCopyOf}
 
 -- the new entries show the look at the key, and what the old ones showed elsewhere
 abbrev pub Shows : List (ProductKey × Look) → List (ProductKey × Look) → ProductKey → Look → Type 0
@@ -43,12 +24,13 @@ pub shows_set : (entries old new : List (ProductKey × Look)) (key : ProductKey)
     → Shows old new key look
 shows_set entries old new key look same set other =
     ap (λ o. unwrap_or o Unknown) (set other)
-    ∙ rw (is_at-key_cmp key other, same) (either (same_key other key) (lookup (is_at (key_cmp other)) old))
+    ∙ rw (eq_by_key_cmp key other, same_key-swap key other, same) (either (same_key other key) (lookup (is_at (key_cmp other)) old))
   where
     either : (b : Bool) (o : Option Look) → unwrap_or (cond b (Some look) o) Unknown ≡ cond b look (unwrap_or o Unknown)
     either true o = refl
     either false o = refl
 
+-- at another key the new entries show what the old ones did
 pub shows_other : (old new : List (ProductKey × Look)) (key : ProductKey) (look : Look) → Shows old new key look
     → (other : ProductKey) → same_key other key ≡ false → look_at new other ≡ look_at old other
 shows_other old new key look shows other differs = shows other ∙ rw differs

@@ -1,2 +1,4 @@
 mod Entries
 pub mod CopyCells
+pub mod Names
+pub mod Taking

@@ -1,17 +1,12 @@
 -- What the entries of a copy show of each product, and when they are the copy of a list of changes.
 use Rattle.std.specs.Prelude.{◌≡◌, List, unwrap_or}
-use Rattle.std.specs.Ordering.{nat_cmp, ordering_then}
-use Rattle.std.specs.declared.cmp.Ordering.{Ordering}
 use Rattle.std.specs.BTreeMap.{is_at}
 use Rattle.std.specs.Map.{lookup}
 use Rattle.market_amounts.specs.declared.keys.ProductKey.{ProductKey}
 use Rattle.market_events.specs.declared.changes.Look.{Look}
 use Rattle.market_events.specs.declared.changes.Look.TheVariants.{Unknown}
 use Rattle.market_events.specs.Copies.{ProductChange, copy_of}
-
--- by seller, and then by product
-abbrev pub key_cmp : ProductKey → ProductKey → Ordering
-key_cmp a b = ordering_then (nat_cmp a.seller b.seller) (nat_cmp a.product b.product)
+use Rattle.market_events.specs.Steps.{key_cmp}
 
 -- what the entries have at the key, Unknown where they have nothing
 abbrev pub look_at : List (ProductKey × Look) → ProductKey → Look

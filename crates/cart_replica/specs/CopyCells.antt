@@ -1,5 +1,5 @@
 -- The cells of a copy, by its entries.
-use Rattle.std.specs.Prelude.{◌≡◌, ℕ, true, List, Option}
+use Rattle.std.specs.Prelude.{◌≡◌, ℕ, true, List, Option, codes}
 use Rattle.std.specs.List.{list_all}
 use Rattle.std.specs.Map.{keys_of}
 use Rattle.market_amounts.specs.declared.keys.ProductKey.{ProductKey}
@@ -23,3 +23,7 @@ copy_cells table entries = cells_by (key_name table) (text_in entries) (keys_of 
 -- each change is of a well-formed key
 abbrev pub AreKeysFormed : List ProductChange → Type 0
 AreKeysFormed changes = list_all (λ (c : ProductChange). key_formed c.key) changes ≡ true
+
+-- the table of the copy's cells
+abbrev pub copy_table : List ℕ
+copy_table = codes "copy"

@@ -46,7 +46,8 @@ fn put_look(
     look: Look,
     cells: &mut CellList,
 ) -> Result<(), AllocError>
-    ensures { OnOk result (cells.new ≡ put_some cells.old (key_cell (key_name table.now) (λ _. look_text look) key)) }
+    ensures { OnOk result (cells.new
+        ≡ put_some cells.old (key_cell (key_name table.now) (λ _. look_text look) key)) }
 {
     let Some(text) = look_text(alloc, look)? else {
         return Ok(());

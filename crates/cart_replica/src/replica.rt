@@ -19,7 +19,7 @@ use std::alloc::{AllocError, Global};
 use std::collections::BTreeMap;
 use std::marker::Model;
 
-/// What the cart knows of each product. Contracts see the entries, in the order of their keys; a product without an
+/// What is known of each product. Contracts see the entries, in the order of their keys; a product without an
 /// entry is unknown.
 #[derive(Debug, Drop)]
 pub struct ProductCopy {
@@ -52,13 +52,15 @@ impl ProductCopy {
         ensures value { result ≡ look_at self.now key }
 
         // Of whichever changes it is the copy, it shows what they leave.
-        ensures copied { (changes : List ProductChange) → IsCopyOf self.now changes → result ≡ copy_of changes key }
+        ensures copied { (changes : List ProductChange) → IsCopyOf self.now changes
+            → result ≡ copy_of changes key }
     {
         self.looks.get(&key).copied().unwrap_or(Look::Unknown)
     }
 
-    /// Applies a change of a product. It requires the version after the one that is shown, 1 for an unknown product,
-    /// and for a price or a deletion that the product is live. On want of memory the copy is as before.
+    /// Applies a change of a product. It requires the version after the one that is shown, 1 for an unknown
+    /// product, and for a price or a deletion that the product is live. On want of memory the copy is as
+    /// before.
     pub fn apply(
         &mut self,
         key: ProductKey,
@@ -68,7 +70,8 @@ impl ProductCopy {
         requires next { version ≡ look_version (look_at self.old key) + 1 }
         requires can { can_change (look_at self.old key) change.now ≡ true }
 
-        ensures changed { OnOk result (look_at self.new key ≡ look_after (look_at self.old key) version change.now) }
+        ensures changed { OnOk result (look_at self.new key
+            ≡ look_after (look_at self.old key) version change.now) }
 
         // Every other product is shown as before.
         ensures others { OnOk result ((other : ProductKey) → same_key other key ≡ false
@@ -76,7 +79,8 @@ impl ProductCopy {
 
         // The copy of some changes becomes the copy of these and this one.
         ensures copies { OnOk result ((changes : List ProductChange) → IsCopyOf self.old changes
-            → IsCopyOf self.new (changes ++ record { key = key; version = version; change = change.now } ∷ [])) }
+            → IsCopyOf self.new
+            (changes ++ record { key = key; version = version; change = change.now } ∷ [])) }
         ensures err { OnErr result (self.new ≡ self.old) }
     {
         let look = changed(self.look(key), version, change);
@@ -103,14 +107,15 @@ impl ProductCopy {
         table: &[u8],
         name: &CellName,
     ) -> Result<Option<List<u8>>, AllocError>
-        ensures is { IfOk result (λ value. (key : ProductKey) → key_formed key ≡ true → name.now ≡ key_name table.now key
-            → value ≡ text_in self.now key) }
-        ensures none { IfOk result (λ value. ((key : ProductKey) → key_formed key ≡ true → name.now ≡ key_name table.now key → ⊥)
+        ensures shown { IfOk result (λ value. (key : ProductKey) → key_formed key ≡ true
+            → name.now ≡ key_name table.now key → value ≡ text_in self.now key) }
+        ensures none { IfOk result (λ value.
+            ((key : ProductKey) → key_formed key ≡ true → name.now ≡ key_name table.now key → ⊥)
             → value ≡ None) }
 
         // Of whichever changes of well-formed keys it is the copy, it is the value of their cell.
-        ensures copied { IfOk result (λ value. (changes : List ProductChange) → IsCopyOf self.now changes → AreKeysFormed changes
-            → value ≡ last_value name.now (look_cells table.now changes)) }
+        ensures copied { IfOk result (λ value. (changes : List ProductChange) → IsCopyOf self.now changes
+            → AreKeysFormed changes → value ≡ last_value name.now (look_cells table.now changes)) }
     {
         let Some(key) = key_named(table, name) else {
             return Ok(None);

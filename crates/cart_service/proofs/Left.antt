@@ -20,19 +20,21 @@ use Rattle.market_events.specs.Links.{cart_node}
 use Rattle.market_events.specs.Requests.{same_key}
 use Rattle.market_events.specs.Steps.{Step, Sending, key_cmp, told, refused}
 use Rattle.market_events.specs.WellFormed.{most_lines}
-use Rattle.market_events.proofs.BasketLaws.{basket_customer, basket_of-line, basket_of-remove, basket_of-checkout, basket_of-other_customer, basket_of-other}
-use Rattle.market_events.proofs.CartLaws.{body_sets_basket}
-use Rattle.market_events.proofs.ListLaws.{or_parts}
-use Rattle.market_events.proofs.SameLaws.{same_key-swap}
-use Rattle.cart_service.specs.Tables.{Tables, lines_in, without, undone_by_basket, is_set, is_emptied, lines_left, IsLeft}
+use Rattle.market_events.proofs.Steps.Baskets.{basket_customer, basket_of-line, basket_of-remove, basket_of-checkout, basket_of-other_customer, basket_of-other}
+use Rattle.market_events.proofs.Steps.Carts.{body_sets_basket}
+use Rattle.market_events.proofs.Values.Lists.{or_parts, and_true, and_false}
+use Rattle.market_events.proofs.Values.Same.{same_key-swap}
+use Rattle.cart_service.specs.Tables.{lines_at, without, undone_by_basket, is_set, is_emptied, ChangesOnly, basket_left}
 
 -- rows that tell no refusal, and rows that send a checkout on
 abbrev accepts : List Sending → Bool
 accepts made = not (list_any is_refusal made)
 
+-- rows that send a checkout on
 abbrev sends_on : List Sending → Bool
 sends_on made = list_any is_reserve made
 
+-- a line is accepted where it may be set
 accepts-line : (id : RequestId) (key : ProductKey) (quantity : ℕ) (look : Look) (basket : List (ProductKey × Held)) → accepts (line_rows id key quantity look basket) ≡ is_set look basket key
 accepts-line id key quantity Unknown basket = refl
 accepts-line id key quantity (Gone v) basket = refl
@@ -42,6 +44,7 @@ accepts-line id key quantity (Live v price freight) basket = either (nat_le most
     either true = refl
     either false = refl
 
+-- a removal is accepted where there is a line
 accepts-remove : (id : RequestId) (key : ProductKey) (basket : List (ProductKey × Held)) → accepts (remove_rows id key basket) ≡ has_key basket key
 accepts-remove id key basket = either (has_key basket key)
   where
@@ -49,6 +52,7 @@ accepts-remove id key basket = either (has_key basket key)
     either true = refl
     either false = refl
 
+-- a checkout is sent on where nothing undoes it
 sends_on-checkout : (id : RequestId) (customer : ℕ) (look : ProductKey → Look) (basket : List (ProductKey × Held))
     → sends_on (checkout_rows id customer look basket (first_gone look basket)) ≡ is_emptied look basket
 sends_on-checkout id customer look [] = refl
@@ -66,14 +70,16 @@ without-none key (e ∷ es) none =
     ap (λ b. cond (not b) (e ∷ without key es) (without key es)) (same_key-swap key e.0 ∙ both.0) ∙ ap (λ more. e ∷ more) (without-none key es both.1)
 
 -- a removal of a line that is not there leaves all as it is
-pub left_alone : (kept : Tables) (c : ℕ) (key : ProductKey) → has_key (lines_in kept.baskets c) key ≡ false → IsLeft kept kept (ask.Remove c key)
-left_alone kept c key none = record { copy = refl; lines = λ customer. either customer (customer == c) refl }
+pub left_alone : (baskets : List (ℕ × List (ProductKey × Held))) (c : ℕ) (key : ProductKey) → has_key (lines_at baskets c) key ≡ false
+    → ChangesOnly baskets baskets c (without key (lines_at baskets c))
+left_alone baskets c key none customer = either (customer == c) refl
   where
-    either : (customer : ℕ) (b : Bool) → (customer == c) ≡ b → lines_in kept.baskets customer ≡ (if b then without key (lines_in kept.baskets c) else lines_in kept.baskets customer)
-    either customer true same = ap (lines_in kept.baskets) (eqb-true customer c same) ∙ sym (without-none key (lines_in kept.baskets c) none)
-    either customer false other = refl
+    either : (b : Bool) → (customer == c) ≡ b → lines_at baskets customer ≡ (if b then without key (lines_at baskets c) else lines_at baskets customer)
+    either true same = ap (lines_at baskets) (eqb-true customer c same) ∙ sym (without-none key (lines_at baskets c) none)
+    either false other = refl
 
-swap_numbers : (a b : ℕ) → (a == b) ≡ (b == a)
+-- a test of two numbers may be turned round
+pub swap_numbers : (a b : ℕ) → (a == b) ≡ (b == a)
 swap_numbers a b = grind (arith, nat_tests)
 
 -- the lines of each customer after a step whose request sets those of one
@@ -81,6 +87,7 @@ module _ (steps : List Step) (s : Step) (id : RequestId) (what : Ask) (is : s.bo
   none_set : body_sets_basket (body.Asked (record { id = id; ask = what })) (is_accepted s) (is_sent_on s) ≡ false → (customer : ℕ) → basket_of (steps ++ s ∷ []) customer ≡ basket_of steps customer
   none_set none customer = basket_of-other steps s (ap (λ b. body_sets_basket b (is_accepted s) (is_sent_on s)) is ∙ none) customer
 
+  -- a request of one customer leaves the lines of the others
   one_set : (c : ℕ) (lines : List (ProductKey × Held)) → basket_customer what ≡ Some c → basket_of (steps ++ s ∷ []) c ≡ lines
       → (customer : ℕ) → basket_of (steps ++ s ∷ []) customer ≡ (if customer == c then lines else basket_of steps customer)
   one_set c lines who here customer = either (customer == c) refl
@@ -94,20 +101,12 @@ module _ (steps : List Step) (s : Step) (id : RequestId) (what : Ask) (is : s.bo
       → (set ≡ true → basket_of (steps ++ s ∷ []) c ≡ lines)
       → (set ≡ false → (customer : ℕ) → basket_of (steps ++ s ∷ []) customer ≡ basket_of steps customer)
       → (customer : ℕ) → basket_of (steps ++ s ∷ []) customer ≡ (if (customer == c) && test then lines else basket_of steps customer)
-  where_set c lines true set who is_test here same customer = one_set c lines who (here is_test) customer ∙ ap (λ b. if b then lines else basket_of steps customer) (and_true (customer == c))
-    where
-      and_true : (a : Bool) → a ≡ (a && true)
-      and_true true = refl
-      and_true false = refl
-  where_set c lines false set who is_test here same customer = same is_test customer ∙ ap (λ b. if b then lines else basket_of steps customer) (and_false (customer == c))
-    where
-      and_false : (a : Bool) → false ≡ (a && false)
-      and_false true = refl
-      and_false false = refl
+  where_set c lines true set who is_test here same customer = one_set c lines who (here is_test) customer ∙ ap (λ b. if b then lines else basket_of steps customer) (sym (and_true (customer == c)))
+  where_set c lines false set who is_test here same customer = same is_test customer ∙ ap (λ b. if b then lines else basket_of steps customer) (sym (and_false (customer == c)))
 
 -- baskets: what a request leaves, of which the cart made what it answers
 pub basket_of-asked : (steps : List Step) (s : Step) (id : RequestId) (what : Ask) → s.body ≡ body.Asked (record { id = id; ask = what }) → s.made ≡ cart_asked (cart_sums steps) id what
-    → (customer : ℕ) → basket_of (steps ++ s ∷ []) customer ≡ lines_left (cart_sums steps) what customer
+    → (customer : ℕ) → basket_of (steps ++ s ∷ []) customer ≡ basket_left (cart_sums steps) what customer
 basket_of-asked steps s id (ask.Line c key quantity voucher) is made customer =
     where_set steps s id (ask.Line c key quantity voucher) is c (insert_entry key_cmp (basket_of steps c) key (record { quantity = quantity; voucher = voucher }))
     (is_set ((cart_sums steps).look key) (basket_of steps c) key) (is_accepted s) refl

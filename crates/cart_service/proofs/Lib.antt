@@ -1,6 +1,6 @@
 pub mod Lines
 pub mod Left
-pub mod Joining
-pub mod BasketCells
-pub mod Touching
-pub mod Valuing
+pub mod Steps
+pub mod TableCells
+pub mod Values
+pub mod Touches

@@ -1,7 +1,9 @@
--- The lines of a basket: what is looked up in them, and what is left where one is set or taken away.
-use Rattle.std.proofs.Common.{◌≡◌, ℕ, ◌+◌, ◌≤◌, Bool, true, false, cond, ◌&&◌, ◌||◌, not, nat_le, List, [], ◌∷◌, ◌++◌, Option, Some, None, is_some, length, map, filter, filter_map, find, option_map, if◌then◌else◌, refl, ap, sym, ◌∙◌, arith}
+-- The lines of a basket, and the baskets: what is looked up in them, and what is left where one is set or taken away.
+use Rattle.std.proofs.Common.{◌≡◌, ℕ, ◌+◌, ◌≤◌, Bool, true, false, cond, ◌&&◌, ◌||◌, not, nat_le, List, [], ◌∷◌, ◌++◌, Option, Some, None, is_some, length, map, filter, filter_map, find, option_map, unwrap_or, ◌==◌, if◌then◌else◌, refl, ap, sym, ◌∙◌, arith}
 use Rattle.std.specs.List.{list_any, cons_option}
 use Rattle.std.specs.BTreeMap.{is_at}
+use Rattle.std.specs.Ordering.{nat_cmp}
+use Rattle.std.proofs.lemmas.Bool.Decides.{nat_tests}
 use Rattle.std.specs.Map.{keys_of, lookup}
 use Rattle.std.specs.List.Sorted.{IsStrictlySortedBy}
 use Rattle.std.specs.FinMap.Entries as entries
@@ -16,10 +18,11 @@ use Rattle.market_events.specs.Looks.{is_live}
 use Rattle.market_events.specs.Requests.{same_key}
 use Rattle.market_events.specs.Steps.{key_cmp}
 use Rattle.market_events.specs.WellFormed.{most_lines}
-use Rattle.market_events.proofs.KeyLaws.{eq_by_key_cmp, key_cmp_total, key_cmp-Equal, find-lookup, is_sorted-of}
-use Rattle.market_events.proofs.SameLaws.{same_key-swap}
-use Rattle.cart_service.specs.Tables.{without}
+use Rattle.market_events.proofs.Values.Keys.{eq_by_key_cmp, key_cmp_total, key_cmp-Equal, find-lookup, is_sorted-of}
+use Rattle.market_events.proofs.Values.Same.{same_key-swap}
+use Rattle.cart_service.specs.Tables.{lines_at, without, ChangesOnly}
 
+-- what a look-up finds in the lines
 abbrev pub found : List (ProductKey × Held) → ProductKey → Option Held
 found lines key = lookup (is_at (key_cmp key)) lines
 
@@ -90,8 +93,21 @@ priced-push f shows xs x items line so_far is =
     ap (λ ys. ys ++ line ∷ []) so_far ∙ sym (ap (filter_map f) (map-append shows xs (x ∷ [])) ∙ filter_map-append f (map shows xs) (shows x ∷ [])
     ∙ ap (λ o. filter_map f (map shows xs) ++ cons_option o []) is)
 
+-- one more line that has no price changes nothing
 pub priced-none : {A B C : Type 0} (f : B → Option C) (shows : A → B) (xs : List A) (x : A) (items : List C) → items ≡ filter_map f (map shows xs) → f (shows x) ≡ None
     → items ≡ filter_map f (map shows (xs ++ x ∷ []))
 priced-none f shows xs x items so_far is =
     so_far ∙ sym (ap (filter_map f) (map-append shows xs (x ∷ [])) ∙ filter_map-append f (map shows xs) (shows x ∷ []) ∙ ap (λ o. filter_map f (map shows xs) ++ cons_option o []) is
     ∙ append-nil (filter_map f (map shows xs)))
+
+-- the baskets after one of them is set
+pub baskets_set : (old new : List (ℕ × List (ProductKey × Held))) (c : ℕ) (lines : List (ProductKey × Held))
+    → ((d : ℕ) → lookup (is_at (nat_cmp d)) new ≡ cond (is_at (nat_cmp c) d) (Some lines) (lookup (is_at (nat_cmp d)) old)) → ChangesOnly old new c lines
+baskets_set old new c lines sets d = ap (λ o. unwrap_or o []) (sets d) ∙ either (is_at (nat_cmp c) d) (lookup (is_at (nat_cmp d)) old) ∙ ap (λ b. if b then lines else lines_at old d) (test c d)
+  where
+    test : (a b : ℕ) → is_at (nat_cmp a) b ≡ (b == a)
+    test a b = grind (arith, nat_tests)
+
+    either : (b : Bool) (o : Option (List (ProductKey × Held))) → unwrap_or (cond b (Some lines) o) [] ≡ (if b then lines else unwrap_or o [])
+    either true o = refl
+    either false o = refl

@@ -1,2 +1,3 @@
 pub mod Tables
-pub mod BasketCells
+pub mod Holds
+pub mod Cells

@@ -1,15 +1,16 @@
 //! The basket of one customer.
 
-ghost use Rattle.std.specs.Prelude.{◌≡◌, ◌≤◌, ◌&&◌, true, false, not, nat_le, [], length, filter, filter_map, IfOk, OnOk, OnErr, IsTrue, ◌↔◌};
+ghost use Rattle.std.specs.Prelude.{◌≡◌, ◌&&◌, false, not, nat_le, [], length, filter_map, IfOk, OnOk, OnErr};
 ghost use Rattle.std.specs.BTreeMap.{insert_entry};
 ghost use Rattle.market_amounts.specs.declared.keys.ProductKey.{ProductKey};
-ghost use Rattle.market_events.specs.Carts.{Held as HeldLine, has_key, priced_by, priced as priced_at, first_gone as first_gone_in};
+ghost use Rattle.market_events.specs.Carts.{has_key, priced_by, priced as priced_at};
+ghost use Rattle.market_events.specs.Carts.{first_gone as first_gone_in};
 ghost use Rattle.market_events.specs.Looks.{is_live as is_live_look};
 ghost use Rattle.market_events.specs.Steps.{key_cmp};
 ghost use Rattle.market_events.specs.WellFormed.{most_lines};
 ghost use Rattle.market_events.specs.CellLists.{put_all};
 ghost use Rattle.cart_replica.specs.Copy.{look_at};
-ghost use Rattle.cart_service.specs.BasketCells.{held_in, lines_cells, names_in};
+ghost use Rattle.cart_service.specs.Cells.{lines_cells, names_in, line_held};
 ghost use Rattle.cart_service.specs.Tables.{without, undone_by_basket};
 
 use crate::cells::{line_name, put_line};
@@ -40,7 +41,7 @@ impl Model for Held {
     ghost inverse = { λ held. record { quantity = held.quantity; voucher = held.voucher } };
 }
 
-/// The lines of one customer, at most 32, one for each product. Contracts see them by rising key.
+/// The lines of one customer, at most `MOST_LINES`, one for each product. Contracts see them by rising key.
 #[derive(Debug, Drop)]
 pub struct Basket {
     lines: BTreeMap<ProductKey, Held>,
@@ -59,7 +60,8 @@ impl Model for Basket {
 
     ghost view = { λ basket. basket.lines.entries };
 
-    ghost invariant = { λ basket. (length basket.lines.entries ≤ most_lines) × IsStrictlySortedBy key_cmp (keys_of basket.lines.entries) };
+    ghost invariant = { λ basket. (length basket.lines.entries ≤ most_lines)
+        × IsStrictlySortedBy key_cmp (keys_of basket.lines.entries) };
 }
 
 impl Basket {
@@ -79,7 +81,7 @@ impl Basket {
         self.lines.contains_key(&key)
     }
 
-    /// Whether a line of the product may be set: there is one, or there are fewer than 32 lines.
+    /// Whether a line of the product may be set: there is one, or there are fewer than `MOST_LINES`.
     pub fn has_room(&self, key: ProductKey) -> bool
         ensures { result ≡ not (nat_le most_lines (length self.now) && not (has_key self.now key)) }
     {
@@ -103,8 +105,8 @@ impl Basket {
         self.lines.remove(&key);
     }
 
-    /// Why a checkout of the basket is undone at once: it has no line, or one of a product that is not live, of which the
-    /// least is named.
+    /// Why a checkout of the basket is undone at once: it has no line, or one of a product that is not live,
+    /// of which the least is named.
     pub fn undone(&self, copy: &ProductCopy) -> Option<UndoneRule>
         ensures { result ≡ undone_by_basket (look_at copy.now) self.now }
     {
@@ -142,7 +144,7 @@ impl Basket {
 
     /// What the basket holds of a product.
     pub fn held(&self, key: ProductKey) -> Option<Held>
-        ensures { result ≡ held_in self.now key }
+        ensures { result ≡ line_held self.now key }
     {
         self.lines.get(&key).copied()
     }

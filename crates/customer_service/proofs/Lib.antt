@@ -1,5 +1,8 @@
-pub mod Tables
-pub mod Counting
-pub mod Tabling
+pub mod Entries
+pub mod Steps
+pub mod Counts
+pub mod Texts
 pub mod Taken
-pub mod CustomerCells
+pub mod TableCells
+pub mod Values
+pub mod Touches

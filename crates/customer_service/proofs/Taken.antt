@@ -12,13 +12,14 @@ use Rattle.market_events.specs.Cells.{customers_in}
 use Rattle.market_events.specs.Customers.{confirms_for, fails_for}
 use Rattle.market_events.specs.Formed.{body_formed, item_formed, request_id_formed, id_formed, key_formed, lines_formed}
 use Rattle.market_events.specs.Orders.{items_in}
-use Rattle.market_events.specs.Services.{Role, RunsFrom, IsRunOf}
+use Rattle.market_events.specs.Services.{RunsFrom, IsRunOf}
 use Rattle.market_events.specs.Steps.{Step, taken_bodies}
 use Rattle.market_events.specs.WellFormed.{id_max, total_of}
-use Rattle.market_events.proofs.StandingLaws.{is_fit}
+use Rattle.market_events.proofs.Runs.Standing.{is_fit}
 use Rattle.customer_service.specs.Cells.{is_nothing}
-use Rattle.customer_service.specs.Tallies.{tally_by}
-use Rattle.customer_service.proofs.Tabling.{is_among}
+use Rattle.customer_service.specs.Holds.{tally_by}
+use Rattle.customer_service.proofs.Texts.{is_among}
+use Rattle.market_events.specs.declared.roles.Role.{Role}
 
 -- the customers of whom something was counted, as they were taken
 abbrev pub customers_taken : List Step → List ℕ

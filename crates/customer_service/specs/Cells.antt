@@ -1,4 +1,4 @@
--- The cells of the customers, by the entries of a table.
+-- The cells of the customers, by their table.
 use Rattle.std.specs.Prelude.{ℕ, Bool, ◌==◌, ◌&&◌, List, [], ◌∷◌, Option, Some, None, codes, if◌then◌else◌}
 use Rattle.std.specs.Fmt.{decimal}
 use Rattle.std.specs.Map.{keys_of}
@@ -7,8 +7,8 @@ use Rattle.market_events.specs.declared.cells.CellName.{CellName}
 use Rattle.market_events.specs.CellLists.{key_cell, cells_by}
 use Rattle.market_events.specs.CellNames.{number_name}
 use Rattle.market_events.specs.Texts.{spaced}
-use Rattle.customer_service.specs.declared.tallies.Tally.{Tally}
-use Rattle.customer_service.specs.Tallies.{tally_at}
+use Rattle.customer_service.specs.declared.tables.Tally.{Tally}
+use Rattle.customer_service.specs.Tables.{tally_at}
 
 abbrev pub is_nothing : Tally → Bool
 is_nothing t = (t.confirmed == 0) && (t.failed == 0) && (t.delivered == 0)

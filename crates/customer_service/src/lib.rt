@@ -1,10 +1,11 @@
-//! The customers as a service. It counts of each customer how many payments were confirmed and failed, and how many
-//! packages were delivered.
+//! The customers as a service. It counts of each customer how many payments were confirmed and failed, and
+//! how many packages were delivered.
 #![tactic(auto)]
 
-mod customers;
-mod names;
-mod tallies;
+mod answers;
+mod cells;
+mod service;
+mod tables;
 
-pub use customers::Customers;
-pub use tallies::Tally;
+pub use service::Customers;
+pub use tables::Tally;

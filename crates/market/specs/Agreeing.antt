@@ -11,13 +11,15 @@ use Rattle.market_events.specs.Payments.{limit_of, spent}
 use Rattle.market_events.specs.Products.{changes_made}
 use Rattle.market_events.specs.Requests.{same_id}
 use Rattle.market_events.specs.Sellers.{invoice_lines, seller_changes}
-use Rattle.market_events.specs.Services.{Role}
+use Rattle.market_events.specs.declared.roles.Role.{Role}
 use Rattle.market_events.specs.Shipments.{packages, items_made}
 use Rattle.market_events.specs.Steps.{Step, Sending, taken_bodies}
 use Rattle.market_events.specs.Stocks.{Reservation, reservations, fails, is_settled, sold, stocked}
-use Rattle.market_history.specs.Acts.{Acts, line_at, pieces_stocked, pieces_sold, lines_of, total_by, limit_by, paid_by, packages_by, count_for}
+use Rattle.market_history.specs.Acts.{Acts, line_at, pieces_stocked, pieces_sold, lines_of, total_by}
+use Rattle.market_history.specs.Acts.{limit_by, count_for, packages_of_checkouts, paid_for_checkouts}
 use Rattle.market_laws.specs.Runs.{lines_apart}
-use Rattle.market.specs.Carrying.{Taken, IsTrace, IsFresh, most_made, steps_of, all_passed, with_request, request_fits, request_answers}
+use Rattle.market.specs.Carrying.{Taken, IsTrace, IsFresh, most_made, all_passed, with_request, request_fits}
+use Rattle.market.specs.Carrying.{request_answers, steps_taken}
 use Rattle.market_history.specs.Sequential.{reply_told, sequential_reply, sequential_step}
 
 pub record ProductsAgree (steps : List Step) (acts : Acts) : Type 0 where
@@ -25,7 +27,8 @@ pub record ProductsAgree (steps : List Step) (acts : Acts) : Type 0 where
 
 pub record CartsAgree (steps : List Step) (acts : Acts) : Type 0 where
   pub changes : changes_taken steps ≡ acts.changes
-  pub baskets : (customer : ℕ) (key : ProductKey) → basket_at steps customer key ≡ line_at acts.baskets customer key
+  pub baskets : (customer : ℕ) (key : ProductKey)
+      → basket_at steps customer key ≡ line_at acts.baskets customer key
 
 -- each reservation is settled
 pub record StocksAgree (steps : List Step) (acts : Acts) : Type 0 where
@@ -36,8 +39,10 @@ pub record StocksAgree (steps : List Step) (acts : Acts) : Type 0 where
 
 -- each order's checkout is whole and was shipped, or was not paid
 pub record OrdersAgree (steps : List Step) (acts : Acts) : Type 0 where
-  pub known : (id : RequestId) → list_any (is_of id) (checkouts_taken steps) ≡ list_any (is_of id) (acts.whole ++ acts.unpaid)
-  pub orders : (id : RequestId) → filter (is_of id) (checkouts_taken steps) ≡ filter (is_of id) (acts.whole ++ acts.unpaid)
+  pub known : (id : RequestId)
+      → list_any (is_of id) (checkouts_taken steps) ≡ list_any (is_of id) (acts.whole ++ acts.unpaid)
+  pub orders : (id : RequestId)
+      → filter (is_of id) (checkouts_taken steps) ≡ filter (is_of id) (acts.whole ++ acts.unpaid)
   pub total : (id : RequestId) → order_total steps id ≡ total_by acts id
   pub failed : (id : RequestId) → is_taken fails steps id ≡ list_any (is_of id) acts.unpaid
   pub shipped : (id : RequestId) → is_taken ships steps id ≡ list_any (is_of id) acts.whole
@@ -45,11 +50,11 @@ pub record OrdersAgree (steps : List Step) (acts : Acts) : Type 0 where
 
 pub record PaymentsAgree (steps : List Step) (acts : Acts) : Type 0 where
   pub limit : (customer : ℕ) → limit_of steps customer ≡ limit_by acts.cards customer
-  pub spent : (customer : ℕ) → spent steps customer ≡ paid_by acts.whole customer
+  pub spent : (customer : ℕ) → spent steps customer ≡ paid_for_checkouts acts.whole customer
 
 -- no package occurs twice
 pub record ShipmentsAgree (steps : List Step) (acts : Acts) : Type 0 where
-  pub packed : packages steps ≡ packages_by acts.whole
+  pub packed : packages steps ≡ packages_of_checkouts acts.whole
   pub items : items_made steps ≡ acts.items
   pub apart : lines_apart [] (packages steps) ≡ true
 
@@ -60,7 +65,8 @@ pub record CustomersAgree (steps : List Step) (acts : Acts) : Type 0 where
 
 pub record SellersAgree (steps : List Step) (acts : Acts) : Type 0 where
   pub entries : (seller : ℕ) → seller_changes steps seller ≡ acts.entries seller
-  pub lines : (id : RequestId) → invoice_lines (taken_bodies steps) id ≡ lines_of (acts.whole ++ acts.unpaid) id
+  pub lines : (id : RequestId)
+      → invoice_lines (taken_bodies steps) id ≡ lines_of (acts.whole ++ acts.unpaid) id
   pub shipped : (id : RequestId) → is_taken ships steps id ≡ list_any (is_of id) acts.whole
   pub items : items_taken steps ≡ acts.items
 
@@ -75,8 +81,8 @@ pub record HasTables (taken : Taken) (acts : Acts) : Type 0 where
   pub customers : CustomersAgree taken.customers acts
   pub sellers : SellersAgree taken.sellers acts
 
--- the request is answered as the sequential market does: it fits its service, what is made of it is carried through the
--- services until none is left, one reply is told, and the sums are the tables once more
+-- the request is answered as the sequential market does: it fits its service, what is made of it is carried
+-- through the services until none is left, one reply is told, and the sums are the tables once more
 pub record IsAnswered (taken : Taken) (acts : Acts) (r : Request) : Type 0 where
   pub fit : request_fits taken r ≡ true
   pub trace : List Sending
@@ -84,5 +90,6 @@ pub record IsAnswered (taken : Taken) (acts : Acts) (r : Request) : Type 0 where
   pub replied : filter_map reply_told trace ≡ sequential_reply acts r ∷ []
   pub tables : HasTables (all_passed (with_request taken r) trace) (sequential_step acts r)
   pub few : length trace ≤ most_made
-  pub fresh : (id : RequestId) → same_id r.id id ≡ false → ((role : Role) → IsFresh (steps_of taken role) id)
-      → (role : Role) → IsFresh (steps_of (all_passed (with_request taken r) trace) role) id
+  pub fresh : (id : RequestId) → same_id r.id id ≡ false
+      → ((role : Role) → IsFresh (steps_taken taken role) id)
+      → (role : Role) → IsFresh (steps_taken (all_passed (with_request taken r) trace) role) id

@@ -1,5 +1,6 @@
 -- One request carried through the eight services, body by body, by the steps that they took.
-use Rattle.std.specs.Prelude.{◌≡◌, ℕ, ◌+◌, ◌<◌, ◌==◌, Bool, true, false, List, [], ◌∷◌, ◌++◌, length, if◌then◌else◌}
+use Rattle.std.specs.Prelude.{◌≡◌, ℕ, ◌+◌, ◌<◌, ◌==◌, Bool, true, false, List, [], ◌∷◌, ◌++◌, length}
+use Rattle.std.specs.Prelude.{if◌then◌else◌}
 use Rattle.std.specs.List.{list_any}
 use Rattle.market_amounts.specs.declared.keys.RequestId.{RequestId}
 use Rattle.market_events.specs.declared.bodies.Body.{Body}
@@ -8,11 +9,14 @@ use Rattle.market_events.specs.declared.bodies.Item.{Item}
 use Rattle.market_events.specs.declared.links.Link.{Link}
 use Rattle.market_events.specs.declared.links.Link.TheVariants.{Service, Asked}
 use Rattle.market_events.specs.declared.requests.Request.{Request}
-use Rattle.market_events.specs.Links.{cart_node, product_node, stock_node, order_node, payment_node, shipment_node, customer_node, service_by_ask, receiver_of}
+use Rattle.market_events.specs.Links.{cart_node, product_node, stock_node, order_node, payment_node}
+use Rattle.market_events.specs.Links.{shipment_node, customer_node, service_by_ask, receiver_of}
 use Rattle.market_events.specs.Requests.{lane_of, same_id}
-use Rattle.market_events.specs.Services.{Role, answers, fits, IsRunOf, most_steps}
+use Rattle.market_events.specs.declared.roles.Role.{Role}
+use Rattle.market_events.specs.Services.{answers, fits, IsRunOf, most_steps}
 use Rattle.market_events.specs.Standing.{with_step}
 use Rattle.market_events.specs.Steps.{Step, Sending, taken_bodies}
+use Rattle.market_history.specs.Blocks.{role_at}
 
 -- the steps that each of the services took
 pub record Taken : Type 0 where
@@ -25,33 +29,30 @@ pub record Taken : Type 0 where
   pub customers : List Step
   pub sellers : List Step
 
-abbrev pub steps_of : Taken → Role → List Step
-steps_of taken Role.Cart = taken.carts
-steps_of taken Role.Product = taken.products
-steps_of taken Role.Stock = taken.stocks
-steps_of taken Role.Order = taken.orders
-steps_of taken Role.Payment = taken.payments
-steps_of taken Role.Shipment = taken.shipments
-steps_of taken Role.Customer = taken.customers
-steps_of taken Role.Seller = taken.sellers
+abbrev pub steps_taken : Taken → Role → List Step
+steps_taken taken Role.Cart = taken.carts
+steps_taken taken Role.Product = taken.products
+steps_taken taken Role.Stock = taken.stocks
+steps_taken taken Role.Order = taken.orders
+steps_taken taken Role.Payment = taken.payments
+steps_taken taken Role.Shipment = taken.shipments
+steps_taken taken Role.Customer = taken.customers
+steps_taken taken Role.Seller = taken.sellers
 
 -- the steps with one more of this service
 abbrev pub with_taken : Taken → Role → Link → Body → Taken
 with_taken taken Role.Cart from b = record taken { carts = with_step Role.Cart taken.carts from b }
-with_taken taken Role.Product from b = record taken { products = with_step Role.Product taken.products from b }
+with_taken taken Role.Product from b =
+    record taken { products = with_step Role.Product taken.products from b }
 with_taken taken Role.Stock from b = record taken { stocks = with_step Role.Stock taken.stocks from b }
 with_taken taken Role.Order from b = record taken { orders = with_step Role.Order taken.orders from b }
-with_taken taken Role.Payment from b = record taken { payments = with_step Role.Payment taken.payments from b }
-with_taken taken Role.Shipment from b = record taken { shipments = with_step Role.Shipment taken.shipments from b }
-with_taken taken Role.Customer from b = record taken { customers = with_step Role.Customer taken.customers from b }
+with_taken taken Role.Payment from b =
+    record taken { payments = with_step Role.Payment taken.payments from b }
+with_taken taken Role.Shipment from b =
+    record taken { shipments = with_step Role.Shipment taken.shipments from b }
+with_taken taken Role.Customer from b =
+    record taken { customers = with_step Role.Customer taken.customers from b }
 with_taken taken Role.Seller from b = record taken { sellers = with_step Role.Seller taken.sellers from b }
-
--- the service with this number
-abbrev pub role_at : ℕ → Role
-role_at n =
-    if n == cart_node then Role.Cart else if n == product_node then Role.Product else if n == stock_node then Role.Stock
-    else if n == order_node then Role.Order else if n == payment_node then Role.Payment
-    else if n == shipment_node then Role.Shipment else if n == customer_node then Role.Customer else Role.Seller
 
 -- the link and the service to which a request comes
 abbrev pub link_asked : Request → Link
@@ -64,10 +65,11 @@ abbrev pub with_request : Taken → Request → Taken
 with_request taken r = with_taken taken (role_asked r) (link_asked r) (body.Asked r)
 
 abbrev pub request_fits : Taken → Request → Bool
-request_fits taken r = fits (role_asked r) (steps_of taken (role_asked r)) (link_asked r) (body.Asked r)
+request_fits taken r = fits (role_asked r) (steps_taken taken (role_asked r)) (link_asked r) (body.Asked r)
 
 abbrev pub request_answers : Taken → Request → List Sending
-request_answers taken r = answers (role_asked r) (steps_of taken (role_asked r)) (link_asked r) (body.Asked r)
+request_answers taken r =
+    answers (role_asked r) (steps_taken taken (role_asked r)) (link_asked r) (body.Asked r)
 
 -- the service to which a service link leads
 abbrev pub role_told : ℕ → Role
@@ -75,23 +77,24 @@ role_told n = role_at (receiver_of (Service n))
 
 -- what is made on a service link fits the service to which it leads; a reply is for no service
 abbrev pub CanPass : Taken → Sending → Type 0
-CanPass taken (Service n, b) = fits (role_told n) (steps_of taken (role_told n)) (Service n) b ≡ true
+CanPass taken (Service n, b) = fits (role_told n) (steps_taken taken (role_told n)) (Service n) b ≡ true
 CanPass taken (other, b) = Unit {0}
 
 -- what that service makes of it
 abbrev pub made_of : Taken → Sending → List Sending
-made_of taken (Service n, b) = answers (role_told n) (steps_of taken (role_told n)) (Service n) b
+made_of taken (Service n, b) = answers (role_told n) (steps_taken taken (role_told n)) (Service n) b
 made_of taken (other, b) = []
 
 abbrev pub passed : Taken → Sending → Taken
 passed taken (Service n, b) = with_taken taken (role_told n) (Service n) b
 passed taken (other, b) = taken
 
--- bodies that wait are carried: the first of them fits, and what is made of it goes behind the others, until none is left;
--- the trace has the bodies in the order in which they are carried
+-- bodies that wait are carried: the first of them fits, and what is made of it goes behind the others, until
+-- none is left; the trace has the bodies in the order in which they are carried
 abbrev pub IsTrace : Taken → List Sending → List Sending → Type 0
 IsTrace taken [] [] = Unit {0}
-IsTrace taken (s ∷ more) (t ∷ trace) = (s ≡ t) × CanPass taken s × IsTrace (passed taken s) (more ++ made_of taken s) trace
+IsTrace taken (s ∷ more) (t ∷ trace) =
+    (s ≡ t) × CanPass taken s × IsTrace (passed taken s) (more ++ made_of taken s) trace
 IsTrace taken waiting trace = ⊥
 
 -- the steps once they were carried
@@ -101,7 +104,7 @@ all_passed taken (s ∷ more) = all_passed (passed taken s) more
 
 -- each service's steps are a run of it
 abbrev pub AreRuns : Taken → Type 0
-AreRuns taken = (role : Role) → IsRunOf role (steps_of taken role)
+AreRuns taken = (role : Role) → IsRunOf role (steps_taken taken role)
 
 -- the body is of this request, or of this checkout
 abbrev pub concerns : RequestId → Body → Bool
@@ -128,5 +131,5 @@ most_made = 14
 
 -- the request is new, and each service can take what it makes
 pub record IsNew (taken : Taken) (r : Request) : Type 0 where
-  pub fresh : (role : Role) → IsFresh (steps_of taken role) r.id
-  pub few : (role : Role) → length (steps_of taken role) + most_made < most_steps
+  pub fresh : (role : Role) → IsFresh (steps_taken taken role) r.id
+  pub few : (role : Role) → length (steps_taken taken role) + most_made < most_steps

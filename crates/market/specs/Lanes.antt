@@ -5,10 +5,12 @@ use Rattle.std.specs.declared.cmp.Ordering.{Ordering}
 use Rattle.std.specs.BTreeMap.{is_at}
 use Rattle.std.specs.List.{AllByRecursion}
 use Rattle.std.specs.Map.{lookup}
+use Rattle.market_amounts.specs.Keys.{id_cmp}
 use Rattle.market_amounts.specs.declared.keys.RequestId.{RequestId}
-use Rattle.market_events.specs.Requests.{lanes, lane_of, same_id}
+use Rattle.market_events.specs.Requests.{lane_of, same_id}
 use Rattle.market_events.specs.WellFormed.{IsReply}
 use Rattle.market.specs.declared.lanes.Kept.{Kept}
+use Rattle.market_events.specs.declared.lanes.TheConstants.{LANES}
 
 -- the kept request with this id
 abbrev pub kept_at : List Kept → RequestId → Option Kept
@@ -26,10 +28,6 @@ count_in_lane kept id = count_by (λ (k : Kept). lane_of k.request.id == lane_of
 abbrev pub count_of_lane : List Kept → ℕ → ℕ
 count_of_lane kept lane = count_by (λ (k : Kept). lane_of k.request.id == lane) kept
 
--- by caller, and then by number
-abbrev pub id_cmp : RequestId → RequestId → Ordering
-id_cmp a b = ordering_then (nat_cmp a.caller b.caller) (nat_cmp a.number b.number)
-
 -- the place that the entries have for an id
 abbrev pub place_at : List (RequestId × ℕ) → RequestId → Option ℕ
 place_at places id = lookup (is_at (id_cmp id)) places
@@ -38,8 +36,9 @@ place_at places id = lookup (is_at (id_cmp id)) places
 abbrev pub IsFormed : Kept → Type 0
 IsFormed kept = IsReply kept.reply
 
--- the places tell where each id stands, the replies are well formed, and the counts tell how many each lane keeps
+-- the places tell where each id stands, the replies are well formed, and the counts tell how many each lane
+-- keeps
 pub record AreLanesOf (kept : List Kept) (places : List (RequestId × ℕ)) (counts : List ℕ) : Type 0 where
   pub found : (id : RequestId) → place_at places id ≡ place_of kept id
   pub formed : AllByRecursion IsFormed kept
-  pub counted : (lane : ℕ) → lane < lanes → slice_index counts lane ≡ count_of_lane kept lane
+  pub counted : (lane : ℕ) → lane < LANES → slice_index counts lane ≡ count_of_lane kept lane

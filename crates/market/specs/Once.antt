@@ -1,5 +1,6 @@
 -- Each request acts once: which of the given requests the lanes keep.
-use Rattle.std.specs.Prelude.{ℕ, Option, Some, None, Bool, not, List, [], ◌∷◌, ◌++◌, if◌then◌else◌, nat_lt, ◌==◌, count_by, filter, take}
+use Rattle.std.specs.Prelude.{ℕ, Option, Some, None, Bool, not, List, [], ◌∷◌, ◌++◌, if◌then◌else◌, nat_lt}
+use Rattle.std.specs.Prelude.{◌==◌, count_by, filter, take}
 use Rattle.std.specs.List.{list_any}
 use Rattle.market_events.specs.declared.requests.Request.{Request}
 use Rattle.market_events.specs.Requests.{lane_of, same_id, same_ask}
@@ -12,7 +13,8 @@ use Rattle.market.specs.Lanes.{kept_at}
 -- the elements of xs that pass p with what stands before them, where front stands before xs
 abbrev pub kept_after : {A : Type 0} → (List A → A → Bool) → List A → List A → List A
 kept_after p front [] = []
-kept_after p front (x ∷ xs) = if p front x then x ∷ kept_after p (front ++ x ∷ []) xs else kept_after p (front ++ x ∷ []) xs
+kept_after p front (x ∷ xs) =
+    if p front x then x ∷ kept_after p (front ++ x ∷ []) xs else kept_after p (front ++ x ∷ []) xs
 
 -- the elements of a list that pass a test on the elements before them and themselves
 abbrev pub kept_where : {A : Type 0} → (List A → A → Bool) → List A → List A
@@ -43,15 +45,15 @@ abbrev pub kept_of : ℕ → List Request → List Request
 kept_of most given = in_room most (without_repeats given)
 
 -- what one lane keeps: its requests, each whose id does not occur earlier, and of these only the first
-abbrev pub kept_by : ℕ → ℕ → List Request → List Request
-kept_by most lane given = take most (without_repeats (of_lane lane given))
+abbrev pub kept_in_lane : ℕ → ℕ → List Request → List Request
+kept_in_lane most lane given = take most (without_repeats (of_lane lane given))
 
 -- the answer to a request, by what is kept with its id
 abbrev pub answer_of : Option Kept → Request → Reply
 answer_of None r = Refused LaneFull
 answer_of (Some kept) r = if same_ask kept.request.ask r.ask then kept.reply else Refused RequestDiffers
 
--- the answer to a request that was given: the kept reply where its id is kept with its content, `request_differs` where
--- it is kept with other content, and `lane_full` where it is not kept
-abbrev pub answer_for : List Kept → Request → Reply
-answer_for kept r = answer_of (kept_at kept r.id) r
+-- the answer to a request that was given: the kept reply where its id is kept with its content,
+-- `request_differs` where it is kept with other content, and `lane_full` where it is not kept
+abbrev pub answer_kept : List Kept → Request → Reply
+answer_kept kept r = answer_of (kept_at kept r.id) r

@@ -1,5 +1,5 @@
 -- The services by name.
-use Rattle.market_events.specs.Services.{Role}
+use Rattle.market_events.specs.declared.roles.Role.{Role}
 use Rattle.market.specs.declared.services.Place.{Place}
 use Rattle.market.specs.declared.services.Place.TheVariants as place
 

@@ -1,7 +1,8 @@
 -- The records of an input, and what a reader of them has left.
 use Rattle.std.specs.Prelude.{◌≡◌, ℕ, ◌+◌, Bool, true, false, List, [], ◌∷◌, length, Some}
 use Rattle.std.specs.Borrow.{Bor}
-use Rattle.csv.specs.Reading.{Ready, reader_trim, reader_config, reader_state, source_of, default_config, records, records_from, strip_bom}
+use Rattle.csv.specs.Reading.{Ready, reader_trim, reader_config, reader_state, source_of, default_config}
+use Rattle.csv.specs.Reading.{records, records_from, strip_bom}
 use Rattle.csv.specs.Machine.{ends_at_end}
 use Rattle.csv.specs.declared.reader.Reader.{Reader}
 use Rattle.csv.specs.declared.reader.Trim.TheVariants as trim

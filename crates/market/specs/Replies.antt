@@ -8,7 +8,8 @@ use Rattle.market_history.specs.Sequential.{sequential_reply, sequential_step}
 -- requests with their replies, where they are answered one after the other after these acts
 abbrev pub replies_after : Acts → List Request → List Kept
 replies_after acts [] = []
-replies_after acts (r ∷ rs) = record { request = r; reply = sequential_reply acts r } ∷ replies_after (sequential_step acts r) rs
+replies_after acts (r ∷ rs) =
+    record { request = r; reply = sequential_reply acts r } ∷ replies_after (sequential_step acts r) rs
 
 -- requests with their replies from the empty market on
 abbrev pub sequential_replies : List Request → List Kept

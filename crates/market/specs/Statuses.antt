@@ -6,14 +6,15 @@ use Rattle.market_texts.specs.declared.workload.WorkRule.TheVariants as work
 use Rattle.market.specs.declared.statuses.InputRule.{InputRule}
 use Rattle.market.specs.declared.statuses.InputRule.TheVariants as input
 use Rattle.market.specs.declared.statuses.Status.{Status}
-use Rattle.market.specs.declared.statuses.Status.TheVariants.{Done, Usage, InputTooLong, BadInput, ReadFault, WriteFault, OutOfMemory}
+use Rattle.market.specs.declared.statuses.Status.TheVariants.{Done, Usage, InputTooLong, BadInput, ReadFault}
+use Rattle.market.specs.declared.statuses.Status.TheVariants.{WriteFault, OutOfMemory}
 
 -- the rule of a workload record among those of all inputs
-abbrev pub rule_of : WorkRule → InputRule
-rule_of work.Fields = input.Fields
-rule_of work.Number = input.Number
-rule_of work.Range = input.Range
-rule_of work.Kind = input.Kind
+abbrev pub input_rule_of : WorkRule → InputRule
+input_rule_of work.Fields = input.Fields
+input_rule_of work.Number = input.Number
+input_rule_of work.Range = input.Range
+input_rule_of work.Kind = input.Kind
 
 -- the text of a rule
 abbrev pub rule_text : InputRule → List ℕ
@@ -23,19 +24,19 @@ rule_text input.Range = codes "range"
 rule_text input.Kind = codes "kind"
 
 -- the text of a status
-abbrev pub status_text : Status → List ℕ
-status_text Done = []
-status_text Usage = codes "usage"
-status_text InputTooLong = codes "input too long"
-status_text (BadInput n rule) = codes "line " ++ (decimal n ++ (codes ": " ++ rule_text rule))
-status_text ReadFault = codes "read fault"
-status_text WriteFault = codes "write fault"
-status_text OutOfMemory = codes "out of memory"
+abbrev pub text_of_status : Status → List ℕ
+text_of_status Done = []
+text_of_status Usage = codes "usage"
+text_of_status InputTooLong = codes "input too long"
+text_of_status (BadInput n rule) = codes "line " ++ (decimal n ++ (codes ": " ++ rule_text rule))
+text_of_status ReadFault = codes "read fault"
+text_of_status WriteFault = codes "write fault"
+text_of_status OutOfMemory = codes "out of memory"
 
 -- what is told of a status: its text and a line feed, and nothing where the command was done
 abbrev pub told_of : Status → List ℕ
 told_of Done = []
-told_of status = status_text status ++ 10 ∷ []
+told_of status = text_of_status status ++ 10 ∷ []
 
 -- the exit status
 abbrev pub exit_of : Status → ℕ

@@ -16,13 +16,14 @@ at_record n (Err rule) = Err (n, rule)
 -- the requests of records that stand after n others, or the number and the rule of the first that breaks one
 abbrev pub requests_after : ℕ → List (List (List ℕ)) → Result (List Request) (ℕ × WorkRule)
 requests_after n [] = Ok []
-requests_after n (r ∷ rs) = at_record (n + 1) (request_of r) >>= λ q. requests_after (n + 1) rs >>= λ qs. Ok (q ∷ qs)
+requests_after n (r ∷ rs) =
+    at_record (n + 1) (request_of r) >>= λ q. requests_after (n + 1) rs >>= λ qs. Ok (q ∷ qs)
 
 -- the requests of an input, or the number, from 1, and the rule of its first bad record
 abbrev pub workload_of : List ℕ → Result (List Request) (ℕ × WorkRule)
 workload_of text = requests_after 0 (records_of text)
 
 -- what a fault says, unless it is want of memory
-abbrev pub TellsFault : {A : Type 0} → Result A (ℕ × WorkRule) → WorkFault → Type 0
-TellsFault said (Line n rule) = said ≡ Err (n, rule)
-TellsFault said OutOfMemory = Unit {0}
+abbrev pub TellsWorkFault : {A : Type 0} → Result A (ℕ × WorkRule) → WorkFault → Type 0
+TellsWorkFault said (Line n rule) = said ≡ Err (n, rule)
+TellsWorkFault said OutOfMemory = Unit {0}

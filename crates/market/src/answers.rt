@@ -4,7 +4,8 @@ ghost use Rattle.std.specs.Prelude.{◌≡◌, [], ◌∷◌, ◌++◌, IfOk, On
 ghost use Rattle.std.specs.List.{All};
 ghost use Rattle.market_events.specs.Texts.{text_of_reply};
 ghost use Rattle.market_events.specs.WellFormed.{IsRequest, IsReply};
-ghost use Rattle.market.specs.Output.{run_output, count_lines, id_text};
+ghost use Rattle.market.specs.Output.{count_lines, sequential_output};
+ghost use Rattle.market_history.specs.Output.{id_and_space};
 
 use crate::hand::Hand;
 use market_amounts::RequestId;
@@ -15,7 +16,7 @@ use std::alloc::{AllocError, Global};
 /// What a run of these requests writes.
 pub fn run_text(alloc: Global, requests: &[Request]) -> Result<Vec<u8>, AllocError>
     requires formed { All IsRequest requests.now }
-    ensures { IfOk result (λ text. text.items ≡ run_output requests.now) }
+    ensures { IfOk result (λ text. text.items ≡ sequential_output requests.now) }
 {
     let mut hand = Hand::new(alloc);
     let mut text = Vec::new(alloc);
@@ -34,7 +35,8 @@ fn append_answer(
     text: &mut Vec<u8>,
 ) -> Result<(), AllocError>
     requires { IsReply reply.now }
-    ensures { OnOk result (text.new.items ≡ text.old.items ++ (id_text id ++ (text_of_reply reply.now ++ 10 ∷ []))) }
+    ensures { OnOk result (text.new.items
+        ≡ text.old.items ++ (id_and_space id ++ (text_of_reply reply.now ++ 10 ∷ []))) }
 {
     let caller = id.caller;
     let number = id.number;

@@ -1,6 +1,7 @@
 //! The bytes of an input, taken in bounded pieces.
 
-ghost use Rattle.std.specs.Prelude.{◌≡◌, ◌≢◌, ◌≤◌, ◌<◌, ◌+◌, ◌++◌, ℕ, List, [], true, false, Some, Ok, Err, IfOk, OnOk, length, vec_len};
+ghost use Rattle.std.specs.Prelude.{◌≡◌, ◌≢◌, ◌≤◌, ◌<◌, ◌+◌, ◌++◌, ℕ, List, [], true, false, Some, Ok, Err};
+ghost use Rattle.std.specs.Prelude.{IfOk, OnOk, length, vec_len};
 ghost use Rattle.market_edges.specs.Counts.{raised_by, Rose};
 ghost use Rattle.market.specs.Input.{Takes};
 
@@ -29,7 +30,8 @@ pub fn read_input<S: Source>(alloc: Global, input: &mut S) -> Result<Vec<u8>, In
     ensures at_end { OnOk result ((all : List ℕ) → S.left input.new ≡ Some all → all ≡ []) }
     ensures within { IfOk result (λ bytes. vec_len bytes ≤ MOST_BYTES) }
     ensures too_long { result ≡ Err InputEnd.TooLong → (bytes : List ℕ) × (length bytes ≡ MOST_BYTES + 1)
-        × (S.taken input.new ≡ raised_by (S.taken input.old) (MOST_BYTES + 1)) × Takes (S.left input.old) (S.left input.new) bytes }
+        × (S.taken input.new ≡ raised_by (S.taken input.old) (MOST_BYTES + 1))
+        × Takes (S.left input.old) (S.left input.new) bytes }
     ensures fault { result ≡ Err InputEnd.Fault → Rose (S.faults input.old) (S.faults input.new) }
     ensures no_fault { result ≢ Err InputEnd.Fault → S.faults input.new ≡ S.faults input.old }
     ensures few { result ≢ Err InputEnd.TooLong → result ≢ Err InputEnd.OutOfMemory
@@ -61,9 +63,12 @@ fn read_piece<S: Source>(
     requires room { 0 < length room.old }
     requires within { vec_len bytes.old ≤ MOST_BYTES }
     ensures piece { OnOk result ((piece : List ℕ) × (bytes.new.items ≡ bytes.old.items ++ piece)
-        × (S.taken input.new ≡ raised_by (S.taken input.old) (length piece)) × Takes (S.left input.old) (S.left input.new) piece) }
+        × (S.taken input.new ≡ raised_by (S.taken input.old) (length piece))
+        × Takes (S.left input.old) (S.left input.new) piece) }
     ensures more { result ≡ Ok true → vec_len bytes.old < vec_len bytes.new }
-    ensures at_end { result ≡ Ok false → (vec_len bytes.new ≡ vec_len bytes.old) × ((all : List ℕ) → S.left input.new ≡ Some all → all ≡ []) }
+    ensures at_end { result ≡ Ok false
+        → (vec_len bytes.new ≡ vec_len bytes.old)
+        × ((all : List ℕ) → S.left input.new ≡ Some all → all ≡ []) }
     ensures within { vec_len bytes.new ≤ MOST_BYTES + 1 }
     ensures no_end { result ≢ Err InputEnd.TooLong }
     ensures fault { result ≡ Err InputEnd.Fault → Rose (S.faults input.old) (S.faults input.new) }

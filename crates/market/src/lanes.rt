@@ -4,7 +4,7 @@ ghost use Rattle.std.specs.Prelude.{◌≡◌, ◌<◌, [], ◌∷◌, ◌++◌,
 ghost use Rattle.std.specs.Option.{option_copied};
 ghost use Rattle.market_events.specs.Requests.{lane_of};
 ghost use Rattle.market.specs.Lanes.{kept_at, count_in_lane, IsFormed};
-ghost use Rattle.market.specs.Output.{whole_in, undone_in};
+ghost use Rattle.market.specs.Output.{undone_kept, whole_kept};
 
 use market_amounts::RequestId;
 use market_events::{Reply, Request};
@@ -25,8 +25,8 @@ pub struct Kept {
     pub reply: Reply,
 }
 
-/// What the lanes keep. Contracts see the list of kept requests with their replies, in the order in which they were
-/// kept.
+/// What the lanes keep. Contracts see the list of kept requests with their replies, in the order in which
+/// they were kept.
 #[derive(Debug, Drop)]
 pub struct Lanes {
     kept: Vec<Kept>,
@@ -67,7 +67,7 @@ impl Lanes {
 
     /// How many of the kept requests were answered `whole`.
     pub fn whole(&self) -> usize
-        ensures { result ≡ whole_in self.now }
+        ensures { result ≡ whole_kept self.now }
     {
         self.kept
             .iter()
@@ -77,7 +77,7 @@ impl Lanes {
 
     /// How many of the kept requests were answered `undone`.
     pub fn undone(&self) -> usize
-        ensures { result ≡ undone_in self.now }
+        ensures { result ≡ undone_kept self.now }
     {
         self.kept
             .iter()
@@ -101,8 +101,8 @@ impl Lanes {
         self.counts[lane(id)] < MOST_KEPT
     }
 
-    /// Keeps a request with a new id, for which its lane has room, and its well-formed reply. On want of memory nothing
-    /// changes.
+    /// Keeps a request with a new id, for which its lane has room, and its well-formed reply. On want of
+    /// memory nothing changes.
     pub fn keep(&mut self, kept: Kept) -> Result<(), AllocError>
         requires formed { IsFormed kept }
         requires new_id { kept_at self.old kept.request.id ≡ None }

@@ -1,5 +1,5 @@
-//! The marketplace as a program. `run SEED 0` reads a workload from standard input, takes its requests in one after the
-//! other, and writes an answer line for each and four lines that count to standard output.
+//! The marketplace as a program. `run SEED 0` reads a workload from standard input, takes its requests in one
+//! after the other, and writes an answer line for each and four lines that count to standard output.
 #![tactic(auto)]
 
 mod answers;

@@ -19,7 +19,8 @@ pub fn open_records(alloc: Global, text: &[u8]) -> Reader<&[u8]>
 
 // Reads the next record, if there is one.
 pub fn next_record(reader: &mut Reader<&[u8]>, row: &mut ByteRecord) -> Result<bool, Error>
-    ensures { IfOk result (λ found. (rest : List (List (List ℕ))) → Reads reader.old rest → ReadsOne rest found (fields_of row.new) reader.new) }
+    ensures { IfOk result (λ found. (rest : List (List (List ℕ))) → Reads reader.old rest
+        → ReadsOne rest found (fields_of row.new) reader.new) }
 {
     let found = reader.read_byte_record(row)?;
     Ok(found)

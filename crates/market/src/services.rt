@@ -8,14 +8,18 @@ ghost use Rattle.market_events.specs.Copies.{last_some};
 ghost use Rattle.market_events.specs.Services.{answers, fits};
 ghost use Rattle.market_events.specs.WellFormed.{IsRequest, IsReply};
 ghost use Rattle.market_history.specs.Acts.{no_acts};
-ghost use Rattle.market.specs.Carrying.{Taken, steps_of, role_at, with_taken, CanPass, made_of, passed, IsTrace, all_passed, request_fits, request_answers, with_request};
+ghost use Rattle.market.specs.Carrying.{Taken, with_taken, CanPass, made_of, passed, IsTrace, all_passed};
+ghost use Rattle.market.specs.Carrying.{request_fits, request_answers, with_request, steps_taken};
+ghost use Rattle.market_history.specs.Blocks.{role_at};
 ghost use Rattle.market_history.specs.Sequential.{acts_after, sequential_reply, reply_told};
 ghost use Rattle.market.specs.Places.{role_of};
 ghost use Rattle.market.specs.Services.{StandFor, Serves, IsNext};
 
 use cart_service::Carts;
 use customer_service::Customers;
-use market_events::{Body, Link, Node, Outs, Reply, Request, Service, receiver_of, service_of};
+use market_events::{
+    Body, LANES, Link, Node, Outs, Reply, Request, Service, receiver_of, service_of,
+};
 use order_service::Orders;
 use payment_service::Payments;
 use product_service::Products;
@@ -24,8 +28,6 @@ use shipment_service::Shipments;
 use std::alloc::{AllocError, Global};
 use std::collections::VecDeque;
 use stock_service::Stocks;
-
-const LANES: u32 = 16;
 
 // The services by name.
 #[derive(Clone, Copy)]
@@ -88,15 +90,19 @@ impl Services {
         }
     }
 
-    /// Gives a request with a new id to its service, carries what that makes through the services until none is left, and
-    /// gives the reply. It requires a well-formed request. After want of memory this is given up.
+    /// Gives a request with a new id to its service, carries what that makes through the services until none
+    /// is left, and gives the reply. It requires a well-formed request. After want of memory this is given
+    /// up.
     pub fn ask(&mut self, request: &Request) -> Result<Reply, AllocError>
         requires formed { IsRequest request.now }
-        requires next { ∥ ((requests : List Request) × Serves self.old requests × IsNext requests request.now) ∥₁ }
-        ensures replied { IfOk result (λ reply. (requests : List Request) → Serves self.old requests → IsNext requests request.now
+        requires next { ∥ ((requests : List Request) × Serves self.old requests
+            × IsNext requests request.now) ∥₁ }
+        ensures replied { IfOk result (λ reply. (requests : List Request) → Serves self.old requests
+            → IsNext requests request.now
             → reply ≡ sequential_reply (acts_after no_acts requests) request.now) }
         ensures formed { IfOk result IsReply }
-        ensures on { OnOk result ((requests : List Request) → Serves self.old requests → IsNext requests request.now
+        ensures on { OnOk result ((requests : List Request) → Serves self.old requests
+            → IsNext requests request.now
             → Serves self.new (requests ++ request.now ∷ [])) }
     {
         let made = self.give(request)?;
@@ -108,10 +114,13 @@ impl Services {
 
     // Gives a request to its service, and gives what that makes.
     fn give(&mut self, request: &Request) -> Result<Outs, AllocError>
-        requires { ∥ ((taken : Taken) × StandFor self.old taken × (request_fits taken request.now ≡ true)) ∥₁ }
-        ensures made { IfOk result (λ made. (taken : Taken) → StandFor self.old taken → request_fits taken request.now ≡ true
+        requires { ∥ ((taken : Taken) × StandFor self.old taken
+            × (request_fits taken request.now ≡ true)) ∥₁ }
+        ensures made { IfOk result (λ made. (taken : Taken) → StandFor self.old taken
+            → request_fits taken request.now ≡ true
             → made ≡ request_answers taken request.now) }
-        ensures on { OnOk result ((taken : Taken) → StandFor self.old taken → request_fits taken request.now ≡ true
+        ensures on { OnOk result ((taken : Taken) → StandFor self.old taken
+            → request_fits taken request.now ≡ true
             → StandFor self.new (with_request taken request.now)) }
     {
         let Request { id, ask } = *request;
@@ -122,12 +131,16 @@ impl Services {
         self.accept(service, from, &body)
     }
 
-    // Carries bodies, and what the services make of them, until none is left, and gives the reply that is told last.
+    // Carries bodies, and what the services make of them, until none is left, and gives the reply that is
+    // told last.
     fn carry(&mut self, made: Outs) -> Result<Option<Reply>, AllocError>
-        requires { ∥ ((taken : Taken) × StandFor self.old taken × ((trace : List (Link × Body)) × IsTrace taken made trace)) ∥₁ }
-        ensures told { IfOk result (λ reply. (taken : Taken) (trace : List (Link × Body)) → StandFor self.old taken → IsTrace taken made trace
+        requires { ∥ ((taken : Taken) × StandFor self.old taken
+            × ((trace : List (Link × Body)) × IsTrace taken made trace)) ∥₁ }
+        ensures told { IfOk result (λ reply. (taken : Taken) (trace : List (Link × Body))
+            → StandFor self.old taken → IsTrace taken made trace
             → reply ≡ last_some reply_told trace) }
-        ensures on { OnOk result ((taken : Taken) (trace : List (Link × Body)) → StandFor self.old taken → IsTrace taken made trace
+        ensures on { OnOk result ((taken : Taken) (trace : List (Link × Body)) → StandFor self.old taken
+            → IsTrace taken made trace
             → StandFor self.new (all_passed taken trace)) }
     {
         let mut waiting = VecDeque::new(self.alloc);
@@ -141,10 +154,12 @@ impl Services {
         Ok(reply)
     }
 
-    // Passes one body to the service at the end of its link, and gives what that makes; a reply is for no service.
+    // Passes one body to the service at the end of its link, and gives what that makes; a reply is for no
+    // service.
     fn pass(&mut self, link: Link, body: &Body) -> Result<Outs, AllocError>
         requires { ∥ ((taken : Taken) × StandFor self.old taken × CanPass taken (link, body.now)) ∥₁ }
-        ensures made { IfOk result (λ made. (taken : Taken) → StandFor self.old taken → CanPass taken (link, body.now)
+        ensures made { IfOk result (λ made. (taken : Taken) → StandFor self.old taken
+            → CanPass taken (link, body.now)
             → made ≡ made_of taken (link, body.now)) }
         ensures on { OnOk result ((taken : Taken) → StandFor self.old taken → CanPass taken (link, body.now)
             → StandFor self.new (passed taken (link, body.now))) }
@@ -157,12 +172,13 @@ impl Services {
 
     // Gives a body that came on this link to a service, and gives what that makes.
     fn accept(&mut self, service: Node, from: Link, body: &Body) -> Result<Outs, AllocError>
-        requires { ∥ ((taken : Taken) × StandFor self.old taken × (fits (role_at service) (steps_of taken (role_at service)) from body.now ≡ true)) ∥₁ }
+        requires { ∥ ((taken : Taken) × StandFor self.old taken
+            × (fits (role_at service) (steps_taken taken (role_at service)) from body.now ≡ true)) ∥₁ }
         ensures made { IfOk result (λ made. (taken : Taken) → StandFor self.old taken
-            → fits (role_at service) (steps_of taken (role_at service)) from body.now ≡ true
-            → made ≡ answers (role_at service) (steps_of taken (role_at service)) from body.now) }
+            → fits (role_at service) (steps_taken taken (role_at service)) from body.now ≡ true
+            → made ≡ answers (role_at service) (steps_taken taken (role_at service)) from body.now) }
         ensures on { OnOk result ((taken : Taken) → StandFor self.old taken
-            → fits (role_at service) (steps_of taken (role_at service)) from body.now ≡ true
+            → fits (role_at service) (steps_taken taken (role_at service)) from body.now ≡ true
             → StandFor self.new (with_taken taken (role_at service) from body.now)) }
     {
         let mut made = Outs::new(self.alloc);

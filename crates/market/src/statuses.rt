@@ -2,7 +2,7 @@
 
 ghost use Rattle.std.specs.Prelude.{◌≡◌, OnOk};
 ghost use Rattle.std.specs.Io.KnownBytes.{Appends};
-ghost use Rattle.market.specs.Statuses.{exit_of, rule_of, told_of};
+ghost use Rattle.market.specs.Statuses.{exit_of, told_of, input_rule_of};
 
 use market_texts::WorkRule;
 use std::error::Error;
@@ -37,7 +37,7 @@ impl fmt::Display for InputRule {
 impl InputRule {
     /// The rule of a workload record.
     pub fn of_work(rule: WorkRule) -> InputRule
-        ensures { result ≡ rule_of rule }
+        ensures { result ≡ input_rule_of rule }
     {
         match rule {
             WorkRule::Fields => InputRule::Fields,
@@ -67,9 +67,9 @@ pub enum Status {
 
 impl fmt::Display for Status {
     ghost use Rattle.std.specs.Prelude.{Some};
-    ghost use Rattle.market.specs.Statuses.{status_text};
+    ghost use Rattle.market.specs.Statuses.{text_of_status};
 
-    ghost output = { λ status. Some (status_text status) };
+    ghost output = { λ status. Some (text_of_status status) };
 
     fn fmt<W: fmt::Write>(&self, f: &mut fmt::Formatter<W>) -> fmt::Result {
         match self {

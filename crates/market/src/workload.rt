@@ -6,7 +6,7 @@ ghost use Rattle.market_texts.specs.Workload.{request_of};
 ghost use Rattle.market.specs.declared.workload.WorkFault.TheVariants.{OutOfMemory};
 ghost use Rattle.std.specs.List.{All};
 ghost use Rattle.market_events.specs.WellFormed.{IsRequest};
-ghost use Rattle.market.specs.Workload.{workload_of, at_record, TellsFault};
+ghost use Rattle.market.specs.Workload.{workload_of, at_record, TellsWorkFault};
 
 use crate::input::MOST_BYTES;
 use crate::records::{fields, next_record, open_records};
@@ -54,7 +54,8 @@ impl From<csv::Error> for WorkFault {
 /// The requests of all records of an input.
 pub fn read_workload(alloc: Global, text: &[u8]) -> Result<Vec<Request>, WorkFault>
     requires { length text.now ≤ MOST_BYTES }
-    ensures said { MatchResult result (λ requests. workload_of text.now ≡ Ok requests.items) (TellsFault (workload_of text.now)) }
+    ensures said { MatchResult result (λ requests. workload_of text.now
+        ≡ Ok requests.items) (TellsWorkFault (workload_of text.now)) }
     ensures few { IfOk result (λ requests. vec_len requests ≤ MOST_BYTES) }
     ensures formed { IfOk result (λ requests. All IsRequest requests.items) }
 {
@@ -72,8 +73,9 @@ pub fn read_workload(alloc: Global, text: &[u8]) -> Result<Vec<Request>, WorkFau
 
 // The request of one record.
 fn read_row(alloc: Global, row: &ByteRecord, number: u32) -> Result<Request, WorkFault>
-    ensures said { MatchResult result (λ request. at_record number (request_of (fields_of row.now)) ≡ Ok request)
-        (TellsFault (at_record number (request_of (fields_of row.now)))) }
+    ensures said { MatchResult result (λ request. at_record number (request_of (fields_of row.now))
+        ≡ Ok request)
+        (TellsWorkFault (at_record number (request_of (fields_of row.now)))) }
     ensures formed { IfOk result IsRequest }
 {
     let fields = fields(alloc, row)?;

@@ -103,8 +103,8 @@ impl Quantity {
     }
 }
 
-/// What a line costs, in cents: price times quantity, plus freight, less the voucher, which takes off at most price
-/// times quantity. At most 1,001,000,000,000.
+/// What a line costs, in cents: price times quantity, plus freight, less the voucher, which takes off at most
+/// price times quantity. At most 1,001,000,000,000.
 pub fn line_amount(price: Cents, quantity: Quantity, freight: Cents, voucher: Cents) -> u64
     ensures { result ≡ amount_of price quantity freight voucher }
 {

@@ -1,5 +1,6 @@
-//! The lowest floor: the numbers and names of the marketplace, each kept in its range by its type, the amount of a
-//! line, the spelling of numbers, and the list that other types hold. Nothing here knows of services or events.
+//! The lowest floor: the numbers and names of the marketplace, each kept in its range by its type, the amount
+//! of a line, the spelling of numbers, and the list that other types hold. Nothing here knows of services or
+//! events.
 #![tactic(auto)]
 
 mod amounts;

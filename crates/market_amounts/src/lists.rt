@@ -1,7 +1,8 @@
 //! A list that other types hold.
 
 ghost use Rattle.std.specs.Prelude.{◌≡◌, IfOk};
-ghost use Rattle.std.specs.Cmp.Lexicographic.{pointwise, slice_partial_cmp, slice_cmp, lists_per, lists_equiv, lists_po, lists_total, lists_agrees, lists_ties};
+ghost use Rattle.std.specs.Cmp.Lexicographic.{pointwise, slice_partial_cmp, slice_cmp, lists_per};
+ghost use Rattle.std.specs.Cmp.Lexicographic.{lists_equiv, lists_po, lists_total, lists_agrees, lists_ties};
 
 use std::alloc::{AllocError, Global};
 use std::cmp::Ordering;

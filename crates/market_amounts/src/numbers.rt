@@ -25,8 +25,8 @@ pub enum NumberError {
     TooLarge,
 }
 
-/// Reads decimal digits with no sign and no leading zero, up to a limit. Of several refusals the first in the order of
-/// `NumberError` is answered.
+/// Reads decimal digits with no sign and no leading zero, up to a limit. Of several refusals the first in the
+/// order of `NumberError` is answered.
 pub fn read_number(text: &[u8], limit: u64) -> Result<u64, NumberError>
     ensures exact { result ≡ number_of text.now limit }
 
@@ -74,7 +74,8 @@ fn number_in(digits: &[u8], limit: u128) -> Result<u128, NumberError>
 // What the digits stand for, where it is within the limit.
 fn value_within(digits: &[u8], limit: u128) -> Option<u128>
     requires { position (λ byte. not (is_ascii_digit byte)) digits.now ≡ None }
-    ensures { result ≡ (if nat_lt limit (digits_value 10 digits.now) then None else Some (digits_value 10 digits.now)) }
+    ensures { result
+        ≡ (if nat_lt limit (digits_value 10 digits.now) then None else Some (digits_value 10 digits.now)) }
 {
     let mut value: u128 = 0;
     for digit in digits {

@@ -2,7 +2,8 @@
 use Rattle.std.proofs.Common.{◌≡◌, ℕ, zero, suc, ◌≤◌, ◌<◌, ◌↔◌, ⊎_elim, arith}
 use Rattle.std.proofs.lemmas.Bool.{cases_lt}
 use Rattle.market_edges.specs.Counts.{count_end}
-use Rattle.market_edges.specs.Shelves.{nodes, faults_below, total_faults, RoseSomewhere}
+use Rattle.market_edges.specs.Shelves.{faults_below, total_faults, RoseSomewhere}
+use Rattle.market_events.specs.declared.nodes.TheConstants.{NODES}
 
 module _ (old new : ℕ → ℕ) (none_fell : (node : ℕ) → old node ≤ new node) where
   not_less : (n : ℕ) → faults_below n old ≤ faults_below n new
@@ -28,6 +29,6 @@ module _ (old new : ℕ → ℕ) (none_fell : (node : ℕ) → old node ≤ new 
 pub sum_rises : (old new : ℕ → ℕ) → ((node : ℕ) → old node ≤ new node) → ((node : ℕ) → old node < count_end)
     → RoseSomewhere old new ↔ (total_faults old < total_faults new)
 sum_rises old new none_fell below_end = (
-  λ rose. up old new none_fell nodes rose.0 rose.1 (omega (arith, rose.2, below_end rose.0)),
-  λ more. let found = down old new none_fell nodes more in (found.0, found.1, omega (arith, found.2, below_end found.0)),
+  λ rose. up old new none_fell NODES rose.0 rose.1 (omega (arith, rose.2, below_end rose.0)),
+  λ more. let found = down old new none_fell NODES more in (found.0, found.1, omega (arith, found.2, below_end found.0)),
 )

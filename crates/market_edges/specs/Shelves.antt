@@ -2,10 +2,7 @@
 use Rattle.std.specs.Prelude.{ℕ, zero, suc, ◌+◌, ◌<◌, ◌≡◌, List, [], ◌∷◌, map}
 use Rattle.market_edges.specs.declared.shelves.Row.{Row}
 use Rattle.market_edges.specs.Counts.{Rose}
-
--- how many nodes there are
-abbrev pub nodes : ℕ
-nodes = 24
+use Rattle.market_events.specs.declared.nodes.TheConstants.{NODES}
 
 -- the most rows of a node: they stand at places below this one
 abbrev pub most_rows : ℕ
@@ -27,8 +24,8 @@ faults_below (suc n) counts = faults_below n counts + counts n
 
 -- the shelf's own count of faults: the sum of the counts of its nodes
 abbrev pub total_faults : (ℕ → ℕ) → ℕ
-total_faults = faults_below nodes
+total_faults = faults_below NODES
 
 -- the shelf's own count rose: exactly where the count of some node did
 abbrev pub RoseSomewhere : (ℕ → ℕ) → (ℕ → ℕ) → Type 0
-RoseSomewhere old new = (node : ℕ) × (node < nodes) × Rose (old node) (new node)
+RoseSomewhere old new = (node : ℕ) × (node < NODES) × Rose (old node) (new node)

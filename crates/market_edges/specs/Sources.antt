@@ -15,8 +15,8 @@ pub record SourceState : Type 0 where
   -- the faults, a count that stands still at its end
   pub faults : ℕ
 
--- what is told of a source over a reader: the reader, the bytes taken and the faults, counts that stand still at
--- their end
+-- what is told of a source over a reader: the reader, the bytes taken and the faults, counts that stand still
+-- at their end
 pub record ReaderState (R : Type 0) : Type 0 where
   pub reader : R
   pub taken : ℕ

@@ -1,9 +1,12 @@
 //! Shelves of rows.
 
-ghost use Rattle.std.specs.Prelude.{◌≡◌, ◌≢◌, ℕ, ◌≤◌, ◌<◌, List, [], ◌++◌, length, map, All, replicate, slice_get, Option, None, Some, option_map, IfSome, IfOk, OnOk, OnErr, IsTrue, ◌↔◌};
+ghost use Rattle.std.specs.Prelude.{◌≡◌, ◌≢◌, ℕ, ◌≤◌, ◌<◌, List, [], ◌++◌, length, map, All, replicate};
+ghost use Rattle.std.specs.Prelude.{slice_get, Option, None, Some, option_map, IfSome, IfOk, OnOk, OnErr};
+ghost use Rattle.std.specs.Prelude.{IsTrue, ◌↔◌};
 ghost use Rattle.market_edges.specs.Counts.{count_end, raised_by, Rose, is_listed};
-ghost use Rattle.market_edges.specs.Shelves.{ContinueFrom, texts_of, nodes, most_rows, RoseSomewhere};
+ghost use Rattle.market_edges.specs.Shelves.{ContinueFrom, texts_of, most_rows, RoseSomewhere};
 ghost use Rattle.market_edges.specs.MemoryShelves.{ShelfState, texts_at, faults_at};
+ghost use Rattle.market_events.specs.declared.nodes.TheConstants.{NODES};
 
 use crate::faults::is_call_listed;
 use market_amounts::List;
@@ -57,20 +60,21 @@ impl From<AllocError> for ShelfError {
     }
 }
 
-/// What rows of the nodes are kept on. `faults` counts a node's faults and stands still at 18,446,744,073,709,551,615.
-/// `held` is the texts of a node's rows, at places 0, 1, .. with none left out, where the shelf tells. No row stands
-/// at place 4,294,967,295.
+/// What rows of the nodes are kept on. `faults` counts a node's faults and stands still at
+/// 18,446,744,073,709,551,615. `held` is the texts of a node's rows, at places 0, 1, .. with none left out,
+/// where the shelf tells. No row stands at place 4,294,967,295.
 pub trait Shelf {
     ghost faults: { Self → ℕ → ℕ };
 
     ghost held: { Self → ℕ → Option (List (List ℕ)) };
 
-    /// Adds all of these rows to those of the node, or none. The rows' places go on where the node's end, and are below
-    /// 4,294,967,295. After an error each node holds what it held, and the call may be made again.
+    /// Adds all of these rows to those of the node, or none. The rows' places go on where the node's end, and
+    /// are below 4,294,967,295. After an error each node holds what it held, and the call may be made again.
     fn commit(&mut self, node: Node, rows: &[Row]) -> Result<(), ShelfError>
         requires continues { IfSome (held self.old node) (λ texts. ContinueFrom (length texts) rows.now) }
         requires below_end { All (λ row. row.place < most_rows) rows.now }
-        ensures ok { OnOk result (held self.new node ≡ option_map (λ texts. texts ++ texts_of rows.now) (held self.old node)) }
+        ensures ok { OnOk result (held self.new node
+            ≡ option_map (λ texts. texts ++ texts_of rows.now) (held self.old node)) }
         ensures others { (other : ℕ) → other ≢ node → held self.new other ≡ held self.old other }
         ensures unchanged { (n : ℕ) → OnErr result (held self.new n ≡ held self.old n) }
         ensures few { (n : ℕ) → IfSome (held self.new n) (λ texts. length texts ≤ most_rows) }
@@ -84,7 +88,8 @@ pub trait Shelf {
 
     /// The row of the node at this place; none where it has none there. The rows stay as they are.
     fn load(&mut self, node: Node, place: u32) -> Result<Option<Row>, ShelfError>
-        ensures text { IfOk result (λ row. IfSome (held self.old node) (λ texts. option_map (λ r. r.text) row ≡ slice_get texts place)) }
+        ensures text { IfOk result (λ row. IfSome (held self.old node) (λ texts. option_map (λ r. r.text) row
+            ≡ slice_get texts place)) }
         ensures place { IfOk result (λ row. IfSome row (λ r. r.place ≡ place)) }
         ensures no_row_at_end { place ≡ most_rows → IfOk result (λ row. row ≡ None) }
         ensures unchanged { (n : ℕ) → held self.new n ≡ held self.old n }
@@ -128,7 +133,14 @@ impl Model for MemoryShelf {
 impl MemoryShelf {
     /// A shelf with no rows. The commits of `failing`, counted from 1 over the shelf's life, fail.
     pub fn new(alloc: Global, failing: Vec<u32>) -> MemoryShelf
-        ensures { result ≡ record { held = replicate nodes []; failing = failing.items; calls = 0; faults = replicate nodes 0 } }
+        ensures { result
+            ≡ record {
+              held = replicate NODES [];
+              failing = failing.items;
+              calls = 0;
+              faults = replicate NODES
+                  0;
+            } }
     {
         MemoryShelf {
             alloc,
@@ -145,24 +157,28 @@ impl Shelf for MemoryShelf {
 
     ghost held = { λ s node. Some (texts_at s node) };
 
-    /// Answers `Failed` exactly at the commits that are listed, and else `OutOfMemory` where memory is missing.
+    /// Answers `Failed` exactly at the commits that are listed, and else `OutOfMemory` where memory is
+    /// missing.
     fn commit(&mut self, node: Node, rows: &[Row]) -> Result<(), ShelfError>
         requires continues { ContinueFrom (length (texts_at self.old node)) rows.now }
         requires below_end { All (λ row. row.place < most_rows) rows.now }
-        ensures fails { (result ≡ Err ShelfError.Failed) ↔ IsTrue (is_listed self.old.failing (raised_by self.old.calls 1)) }
+        ensures fails { (result
+            ≡ Err ShelfError.Failed) ↔ IsTrue (is_listed self.old.failing (raised_by self.old.calls 1)) }
         ensures called { self.new.calls ≡ raised_by self.old.calls 1 }
         ensures same_list { self.new.failing ≡ self.old.failing }
         ensures ok { OnOk result (texts_at self.new node ≡ texts_at self.old node ++ texts_of rows.now) }
         ensures others { (other : ℕ) → other ≢ node → texts_at self.new other ≡ texts_at self.old other }
         ensures unchanged { OnErr result (self.new.held ≡ self.old.held) }
-        ensures failed { result ≡ Err ShelfError.Failed → faults_at self.new node ≡ raised_by (faults_at self.old node) 1 }
+        ensures failed { result ≡ Err ShelfError.Failed
+            → faults_at self.new node ≡ raised_by (faults_at self.old node) 1 }
         ensures failed_somewhere { result ≡ Err ShelfError.Failed
             → RoseSomewhere (faults_at self.old) (faults_at self.new) }
         ensures few { (n : ℕ) → length (texts_at self.new n) ≤ most_rows }
         ensures no_fault { result ≢ Err ShelfError.Failed → self.new.faults ≡ self.old.faults }
         ensures never_falls { (n : ℕ) → faults_at self.old n ≤ faults_at self.new n }
         ensures stands_still { (n : ℕ) → faults_at self.old n ≤ count_end → faults_at self.new n ≤ count_end }
-        ensures other_faults { (other : ℕ) → other ≢ node → faults_at self.new other ≡ faults_at self.old other }
+        ensures other_faults { (other : ℕ) → other ≢ node
+            → faults_at self.new other ≡ faults_at self.old other }
     {
         self.calls = self.calls.saturating_add(1);
         let at = node.get() as usize;
@@ -177,7 +193,8 @@ impl Shelf for MemoryShelf {
 
     /// Fails only where memory is missing, and changes nothing.
     fn load(&mut self, node: Node, place: u32) -> Result<Option<Row>, ShelfError>
-        ensures text { IfOk result (λ row. option_map (λ r. r.text) row ≡ slice_get (texts_at self.old node) place) }
+        ensures text { IfOk result (λ row. option_map (λ r. r.text) row
+            ≡ slice_get (texts_at self.old node) place) }
         ensures place { IfOk result (λ row. IfSome row (λ r. r.place ≡ place)) }
         ensures no_row_at_end { place ≡ most_rows → IfOk result (λ row. row ≡ None) }
         ensures few { (n : ℕ) → length (texts_at self.old n) ≤ most_rows }

@@ -1,6 +1,7 @@
 //! Sinks of bytes.
 
-ghost use Rattle.std.specs.Prelude.{◌≡◌, ℕ, ◌≤◌, ◌<◌, List, [], ◌++◌, length, take, Option, Some, None, option_map, Ok, Err, IfOk, OnOk, OnErr, IsErr, IsTrue};
+ghost use Rattle.std.specs.Prelude.{◌≡◌, ℕ, ◌≤◌, ◌<◌, List, [], ◌++◌, length, take, Option, Some, None};
+ghost use Rattle.std.specs.Prelude.{option_map, Ok, Err, IfOk, OnOk, OnErr, IsErr, IsTrue};
 ghost use Rattle.std.specs.Io.KnownBytes.{WriteAppends};
 ghost use Rattle.market_edges.specs.Counts.{count_end, raised_by, Rose, is_listed};
 ghost use Rattle.market_edges.specs.Sinks.{SinkState};
@@ -11,20 +12,22 @@ use std::io;
 use std::io::Write;
 use std::marker::Model;
 
-/// What bytes are written to. `faults` counts faults and stands still at 18,446,744,073,709,551,615. `written` is the
-/// bytes that were written, where the sink tells.
+/// What bytes are written to. `faults` counts faults and stands still at 18,446,744,073,709,551,615.
+/// `written` is the bytes that were written, where the sink tells.
 pub trait Sink {
     ghost faults: { Self → ℕ };
 
     ghost written: { Self → Option (List ℕ) };
 
-    /// Writes bytes from the front of `piece` and answers how many. It answers 0 for a piece that is not empty only
-    /// where the faults rose. After `Failed` the sink is as before but for its faults, and the call may be made again.
-    /// No other call changes the faults.
+    /// Writes bytes from the front of `piece` and answers how many. It answers 0 for a piece that is not
+    /// empty only where the faults rose. After `Failed` the sink is as before but for its faults, and the
+    /// call may be made again. No other call changes the faults.
     fn write(&mut self, piece: &[u8]) -> Result<usize, Failed>
         ensures within { IfOk result (λ n. n ≤ length piece.now) }
-        ensures appends { IfOk result (λ n. written self.new ≡ option_map (λ bytes. bytes ++ take n piece.now) (written self.old)) }
-        ensures stuck { IfOk result (λ n. n ≡ 0 → 0 < length piece.now → Rose (faults self.old) (faults self.new)) }
+        ensures appends { IfOk result (λ n. written self.new
+            ≡ option_map (λ bytes. bytes ++ take n piece.now) (written self.old)) }
+        ensures stuck { IfOk result (λ n. n ≡ 0 → 0 < length piece.now
+            → Rose (faults self.old) (faults self.new)) }
         ensures moved { IfOk result (λ n. 0 < n → faults self.new ≡ faults self.old) }
         ensures no_bytes { length piece.now ≡ 0 → OnOk result (faults self.new ≡ faults self.old) }
         ensures failed { OnErr result (Rose (faults self.old) (faults self.new)) }
@@ -33,8 +36,8 @@ pub trait Sink {
         ensures stands_still { faults self.old ≤ count_end → faults self.new ≤ count_end };
 }
 
-/// A sink in memory: it takes each piece whole, and fails at chosen calls and where memory is missing. Contracts see a
-/// `SinkState`.
+/// A sink in memory: it takes each piece whole, and fails at chosen calls and where memory is missing.
+/// Contracts see a `SinkState`.
 #[derive(Debug, Drop)]
 pub struct MemorySink {
     bytes: Vec<u8>,
@@ -107,9 +110,9 @@ impl Sink for MemorySink {
     }
 }
 
-/// A sink over a writer of std, which is to buffer nothing: the sink never flushes. One write is one call of the
-/// writer. Each error of the writer is a fault, and so is a write of nothing where there was something. It tells
-/// nothing of its bytes; contracts see its writer and its faults.
+/// A sink over a writer of std, which is to buffer nothing: the sink never flushes. One write is one call of
+/// the writer. Each error of the writer is a fault, and so is a write of nothing where there was something.
+/// It tells nothing of its bytes; contracts see its writer and its faults.
 #[derive(Drop)]
 pub struct StdSink<W> {
     writer: W,
@@ -162,8 +165,8 @@ impl<W: Write> Sink for StdSink<W> {
 
     ghost written = { λ _. None };
 
-    /// Hands on what one call of the writer gives, and counts one fault for an error of it, and for 0 where there
-    /// was something to write.
+    /// Hands on what one call of the writer gives, and counts one fault for an error of it, and for 0 where
+    /// there was something to write.
     fn write(&mut self, piece: &[u8]) -> Result<usize, Failed>
         ensures within { IfOk result (λ n. n ≤ length piece.now) }
         ensures handed_on { WriteAppends (W.contents self.old.writer) (W.contents self.new.writer)

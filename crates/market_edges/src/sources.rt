@@ -1,6 +1,7 @@
 //! Sources of bytes.
 
-ghost use Rattle.std.specs.Prelude.{◌≡◌, ℕ, ◌≤◌, ◌<◌, List, [], length, take, drop, min, Option, Some, None, option_map, IfSome, IfOk, OnOk, OnErr, IsErr, is_err};
+ghost use Rattle.std.specs.Prelude.{◌≡◌, ℕ, ◌≤◌, ◌<◌, List, [], length, take, drop, min, Option, Some, None};
+ghost use Rattle.std.specs.Prelude.{option_map, IfSome, IfOk, OnOk, OnErr, IsErr, is_err};
 ghost use Rattle.std.specs.Io.KnownBytes.{ReadConsumes};
 ghost use Rattle.market_edges.specs.Counts.{count_end, raised_by, Rose, is_listed};
 ghost use Rattle.market_edges.specs.Sources.{SourceState};
@@ -10,8 +11,8 @@ use std::io;
 use std::io::Read;
 use std::marker::Model;
 
-/// What bytes are read from. `faults` counts faults and `taken` the bytes that were taken; each count stands still at
-/// 18,446,744,073,709,551,615. `left` is the bytes that are left, where the source tells.
+/// What bytes are read from. `faults` counts faults and `taken` the bytes that were taken; each count stands
+/// still at 18,446,744,073,709,551,615. `left` is the bytes that are left, where the source tells.
 pub trait Source {
     ghost faults: { Self → ℕ };
 
@@ -19,16 +20,17 @@ pub trait Source {
 
     ghost left: { Self → Option (List ℕ) };
 
-    /// Takes the next bytes into the front of `room` and answers how many; the rest of `room` may change too. 0 is the
-    /// end, but for an empty `room`. After `Failed` the source is as before but for its faults, and the call may be
-    /// made again. No other call changes the faults.
+    /// Takes the next bytes into the front of `room` and answers how many; the rest of `room` may change too.
+    /// 0 is the end, but for an empty `room`. After `Failed` the source is as before but for its faults, and
+    /// the call may be made again. No other call changes the faults.
     fn read(&mut self, room: &mut [u8]) -> Result<usize, Failed>
         ensures within { IfOk result (λ n. n ≤ length room.old) }
         ensures taken { IfOk result (λ n. taken self.new ≡ raised_by (taken self.old) n) }
         ensures there { IfOk result (λ n. IfSome (left self.old) (λ bytes. n ≤ length bytes)) }
         ensures bytes { IfOk result (λ n. IfSome (left self.old) (λ bytes. take n room.new ≡ take n bytes)) }
         ensures rest { IfOk result (λ n. left self.new ≡ option_map (drop n) (left self.old)) }
-        ensures end { IfOk result (λ n. n ≡ 0 → 0 < length room.old → IfSome (left self.old) (λ bytes. bytes ≡ [])) }
+        ensures end { IfOk result (λ n. n ≡ 0 → 0 < length room.old
+            → IfSome (left self.old) (λ bytes. bytes ≡ [])) }
         ensures calm { OnOk result (faults self.new ≡ faults self.old) }
         ensures failed { OnErr result (Rose (faults self.old) (faults self.new)) }
         ensures takes_nothing { OnErr result (taken self.new ≡ taken self.old) }
@@ -67,11 +69,19 @@ impl Model for MemorySource {
 }
 
 impl MemorySource {
-    /// A source of these bytes. One read gives `piece` bytes at most. The calls of `failing`, counted from 1 over the
-    /// source's life, fail.
+    /// A source of these bytes. One read gives `piece` bytes at most. The calls of `failing`, counted from 1
+    /// over the source's life, fail.
     pub fn new(bytes: Vec<u8>, piece: usize, failing: Vec<u32>) -> MemorySource
         requires { 1 ≤ piece }
-        ensures { result ≡ record { left = bytes.items; piece = piece; failing = failing.items; calls = 0; taken = 0; faults = 0 } }
+        ensures { result
+            ≡ record {
+              left = bytes.items;
+              piece = piece;
+              failing = failing.items;
+              calls = 0;
+              taken = 0;
+              faults = 0;
+            } }
     {
         MemorySource {
             bytes,
@@ -91,10 +101,12 @@ impl Source for MemorySource {
 
     ghost left = { λ s. Some s.left };
 
-    /// Fails exactly at the calls that are listed, and else gives as much as the piece, the room and the bytes allow.
+    /// Fails exactly at the calls that are listed, and else gives as much as the piece, the room and the
+    /// bytes allow.
     fn read(&mut self, room: &mut [u8]) -> Result<usize, Failed>
         ensures fails { is_err result ≡ is_listed self.old.failing (raised_by self.old.calls 1) }
-        ensures gives { IfOk result (λ n. n ≡ min self.old.piece (min (length room.old) (length self.old.left))) }
+        ensures gives { IfOk result (λ n. n
+            ≡ min self.old.piece (min (length room.old) (length self.old.left))) }
         ensures bytes { IfOk result (λ n. take n room.new ≡ take n self.old.left) }
         ensures end { IfOk result (λ n. n ≡ 0 → 0 < length room.old → self.old.left ≡ []) }
         ensures ok { IfOk result (λ n. self.new ≡ record self.old {
@@ -121,8 +133,8 @@ impl Source for MemorySource {
     }
 }
 
-/// A source over a reader of std. One read is one call of the reader, and each error of it is a fault. It tells
-/// nothing of its bytes; contracts see its reader and its counts.
+/// A source over a reader of std. One read is one call of the reader, and each error of it is a fault. It
+/// tells nothing of its bytes; contracts see its reader and its counts.
 #[derive(Drop)]
 pub struct StdSource<R> {
     reader: R,

@@ -51,7 +51,8 @@ pub record IsAnswer (role : Role) (input : Body) (made : Sending) : Type 0 where
 -- each goes on a link of its own
 abbrev pub LinksApart : List Sending → Type 0
 LinksApart [] = Unit {0}
-LinksApart (first ∷ more) = AllByRecursion (λ (other : Sending). same_link first.0 other.0 ≡ false) more × LinksApart more
+LinksApart (first ∷ more) =
+    AllByRecursion (λ (other : Sending). same_link first.0 other.0 ≡ false) more × LinksApart more
 
 -- all that the service makes for an input
 pub record AreAnswers (role : Role) (input : Body) (made : List Sending) : Type 0 where

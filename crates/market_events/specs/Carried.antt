@@ -1,34 +1,50 @@
 -- Which bodies a link can carry.
-use Rattle.std.specs.Prelude.{ℕ, Bool, false, ◌==◌, ◌&&◌, ◌||◌, nat_le}
+use Rattle.std.specs.Prelude.{ℕ, Bool, false, ◌==◌, ◌||◌}
 use Rattle.market_events.specs.declared.bodies.Body.{Body}
 use Rattle.market_events.specs.declared.bodies.Body.TheVariants as body
 use Rattle.market_events.specs.declared.links.Link.{Link}
 use Rattle.market_events.specs.declared.links.Link.TheVariants as link
+use Rattle.market_events.specs.declared.links.TheConstants.{PRODUCT_TO_CART, PRODUCT_TO_STOCK, CART_TO_STOCK}
+use Rattle.market_events.specs.declared.links.TheConstants.{STOCK_TO_CART, STOCK_TO_ORDER, ORDER_TO_PAYMENT}
+use Rattle.market_events.specs.declared.links.TheConstants.{ORDER_TO_SELLER, ORDER_TO_CART, PAYMENT_TO_STOCK}
+use Rattle.market_events.specs.declared.links.TheConstants.{PAYMENT_TO_ORDER, PAYMENT_TO_SHIPMENT}
+use Rattle.market_events.specs.declared.links.TheConstants.{PAYMENT_TO_CUSTOMER, PAYMENT_TO_SELLER}
+use Rattle.market_events.specs.declared.links.TheConstants.{SHIPMENT_TO_ORDER, SHIPMENT_TO_SELLER}
+use Rattle.market_events.specs.declared.links.TheConstants.{SHIPMENT_TO_CUSTOMER}
 use Rattle.market_events.specs.declared.replies.Reply.{Reply}
 use Rattle.market_events.specs.declared.replies.Reply.TheVariants as reply
 use Rattle.market_events.specs.declared.replies.Rule.{Rule}
 use Rattle.market_events.specs.declared.replies.Rule.TheVariants as rule
-use Rattle.market_events.specs.Links.{cart_node, product_node, stock_node, order_node, payment_node, shipment_node, customer_node, seller_node, service_by_ask}
+use Rattle.market_events.specs.Links.{cart_node, product_node, stock_node, order_node, payment_node}
+use Rattle.market_events.specs.Links.{shipment_node, customer_node, seller_node, same_link, service_by_ask}
 
--- on the service link n
-abbrev pub service_carries : ℕ → Body → Bool
-service_carries n (body.Changed key version change) = nat_le n 1
-service_carries n (body.Reserve checkout customer lines) = n == 2
-service_carries n (body.ReserveFailed checkout key rule) = n == 3
-service_carries n (body.StockConfirmed checkout customer lines) = n == 4
-service_carries n (body.Invoice checkout customer lines total) = (n == 5) || (n == 6)
-service_carries n (body.Ended checkout ending) = n == 7
-service_carries n (body.Confirmed checkout customer lines total) = nat_le 8 n && nat_le n 12
-service_carries n (body.Failed checkout customer rule) = (n == 8) || (n == 9) || (n == 11) || (n == 12)
-service_carries n (body.Shipped checkout) = (n == 13) || (n == 14)
-service_carries n (body.Delivered items) = nat_le 13 n && nat_le n 15
-service_carries n (body.Asked request) = false
-service_carries n (body.Told id reply) = false
+-- the service link carries the body
+abbrev pub service_carries : Link → Body → Bool
+service_carries on (body.Changed key version change) =
+    same_link on PRODUCT_TO_CART || same_link on PRODUCT_TO_STOCK
+service_carries on (body.Reserve checkout customer lines) = same_link on CART_TO_STOCK
+service_carries on (body.ReserveFailed checkout key rule) = same_link on STOCK_TO_CART
+service_carries on (body.StockConfirmed checkout customer lines) = same_link on STOCK_TO_ORDER
+service_carries on (body.Invoice checkout customer lines total) =
+    same_link on ORDER_TO_PAYMENT || same_link on ORDER_TO_SELLER
+service_carries on (body.Ended checkout ending) = same_link on ORDER_TO_CART
+service_carries on (body.Confirmed checkout customer lines total) =
+    same_link on PAYMENT_TO_STOCK || same_link on PAYMENT_TO_ORDER || same_link on PAYMENT_TO_SHIPMENT
+    || same_link on PAYMENT_TO_CUSTOMER || same_link on PAYMENT_TO_SELLER
+service_carries on (body.Failed checkout customer rule) =
+    same_link on PAYMENT_TO_STOCK || same_link on PAYMENT_TO_ORDER || same_link on PAYMENT_TO_CUSTOMER
+    || same_link on PAYMENT_TO_SELLER
+service_carries on (body.Shipped checkout) = same_link on SHIPMENT_TO_ORDER || same_link on SHIPMENT_TO_SELLER
+service_carries on (body.Delivered items) =
+    same_link on SHIPMENT_TO_ORDER || same_link on SHIPMENT_TO_SELLER || same_link on SHIPMENT_TO_CUSTOMER
+service_carries on (body.Asked request) = false
+service_carries on (body.Told id reply) = false
 
 -- a service can refuse a request by this rule; lanes refuse by the other two
 abbrev pub can_refuse : ℕ → Rule → Bool
 can_refuse service rule.Exists = service == product_node
-can_refuse service rule.Unknown = (service == product_node) || (service == cart_node) || (service == stock_node)
+can_refuse service rule.Unknown =
+    (service == product_node) || (service == cart_node) || (service == stock_node)
 can_refuse service rule.Gone = (service == product_node) || (service == cart_node) || (service == stock_node)
 can_refuse service rule.CartFull = service == cart_node
 can_refuse service rule.NoLine = service == cart_node
@@ -68,6 +84,6 @@ told_by service other = false
 
 -- the link can carry the body
 abbrev pub carries : Link → Body → Bool
-carries (link.Service n) b = service_carries n b
+carries (link.Service n) b = service_carries (link.Service n) b
 carries (link.Asked lane service) b = asked_of service b
 carries (link.Told service lane) b = told_by service b

@@ -1,5 +1,8 @@
--- The cart: what it answers, by the changes that it took, the lines that customers set, and the checkouts that it sent on.
-use Rattle.std.specs.Prelude.{ℕ, ◌+◌, Bool, true, false, ◌==◌, ◌&&◌, ◌||◌, not, nat_le, List, [], ◌∷◌, ◌++◌, Option, Some, None, is_some, option_map, length, map, filter_map, find, if◌then◌else◌}
+-- The cart: what it answers, by the changes that it took, the lines that customers set, and the checkouts
+-- that it sent on.
+use Rattle.std.specs.Prelude.{ℕ, Bool, true, false, ◌==◌, ◌&&◌, not, nat_le, List, [], ◌∷◌}
+use Rattle.std.specs.Prelude.{Option, Some, None, option_map, length, filter_map, find}
+use Rattle.std.specs.Prelude.{if◌then◌else◌}
 use Rattle.std.specs.List.{list_any}
 use Rattle.market_amounts.specs.declared.keys.ProductKey.{ProductKey}
 use Rattle.market_amounts.specs.declared.keys.RequestId.{RequestId}
@@ -14,7 +17,7 @@ use Rattle.market_events.specs.declared.bodies.StockRule.{StockRule}
 use Rattle.market_events.specs.declared.bodies.StockRule.TheVariants as stock
 use Rattle.market_events.specs.declared.changes.Look.{Look}
 use Rattle.market_events.specs.declared.changes.Look.TheVariants.{Unknown, Gone, Live}
-use Rattle.market_events.specs.declared.links.Link.TheVariants.{Service}
+use Rattle.market_events.specs.declared.links.TheConstants.{CART_TO_STOCK}
 use Rattle.market_events.specs.declared.replies.Reply.{Reply}
 use Rattle.market_events.specs.declared.replies.Reply.TheVariants as reply
 use Rattle.market_events.specs.declared.replies.Rule.TheVariants as rule
@@ -22,7 +25,6 @@ use Rattle.market_events.specs.declared.replies.UndoneRule.{UndoneRule}
 use Rattle.market_events.specs.declared.replies.UndoneRule.TheVariants as undone
 use Rattle.market_events.specs.declared.requests.Ask.{Ask}
 use Rattle.market_events.specs.declared.requests.Ask.TheVariants as ask
-use Rattle.market_events.specs.declared.requests.Request.{Request}
 use Rattle.market_events.specs.Copies.{ProductChange, copy_of, last_some}
 use Rattle.market_events.specs.Links.{cart_node}
 use Rattle.market_events.specs.Looks.{is_live}
@@ -59,13 +61,17 @@ is_sent_on step = list_any is_reserve step.made
 -- what an accepted request of a customer leaves of a product in the cart: the line, or none
 abbrev pub asked_leaves : ℕ → ProductKey → Ask → Bool → Bool → Option (Option Held)
 asked_leaves customer key (ask.Line c k q v) accepted sent_on =
-    if (c == customer) && same_key k key && accepted then Some (Some (record { quantity = q; voucher = v })) else None
-asked_leaves customer key (ask.Remove c k) accepted sent_on = if (c == customer) && same_key k key && accepted then Some None else None
-asked_leaves customer key (ask.Checkout c) accepted sent_on = if (c == customer) && sent_on then Some None else None
+    if (c == customer) && same_key k key
+    && accepted then Some (Some (record { quantity = q; voucher = v })) else None
+asked_leaves customer key (ask.Remove c k) accepted sent_on =
+    if (c == customer) && same_key k key && accepted then Some None else None
+asked_leaves customer key (ask.Checkout c) accepted sent_on =
+    if (c == customer) && sent_on then Some None else None
 asked_leaves customer key other accepted sent_on = None
 
 abbrev pub body_leaves : ℕ → ProductKey → Body → Bool → Bool → Option (Option Held)
-body_leaves customer key (body.Asked request) accepted sent_on = asked_leaves customer key request.ask accepted sent_on
+body_leaves customer key (body.Asked request) accepted sent_on =
+    asked_leaves customer key request.ask accepted sent_on
 body_leaves customer key other accepted sent_on = None
 
 abbrev pub leaves : ℕ → ProductKey → Step → Option (Option Held)
@@ -75,8 +81,9 @@ abbrev pub joined : {A : Type 0} → Option (Option A) → Option A
 joined None = None
 joined (Some o) = o
 
--- by the last step that is an accepted line or remove of this customer and product, or a checkout of the customer that
--- was sent on: the product is in the basket where that step is a line, with its quantity and voucher
+-- by the last step that is an accepted line or remove of this customer and product, or a checkout of the
+-- customer that was sent on: the product is in the basket where that step is a line, with its quantity and
+-- voucher
 abbrev pub basket_at : List Step → ℕ → ProductKey → Option Held
 basket_at steps customer key = joined (last_some (leaves customer key) steps)
 
@@ -96,7 +103,8 @@ with_key key (Some held) = Some (key, held)
 -- the basket of a customer by rising key
 abbrev pub basket_of : List Step → ℕ → List (ProductKey × Held)
 basket_of steps customer =
-    listed (filter_map (λ key. with_key key (basket_at steps customer key)) (filter_map (key_lined customer) (taken_bodies steps)))
+    listed (filter_map (λ key. with_key key (basket_at steps customer key))
+    (filter_map (key_lined customer) (taken_bodies steps)))
 
 pub record CartSums : Type 0 where
   pub look : ProductKey → Look
@@ -131,7 +139,8 @@ remove_rows id key basket =
 -- a line of the basket with price and freight of what the copy shows
 abbrev pub priced_by : ProductKey → Held → Look → Option PricedLine
 priced_by key held (Live v price freight) =
-    Some (record { key = key; quantity = held.quantity; price = price; freight = freight; voucher = held.voucher })
+    Some (record
+    { key = key; quantity = held.quantity; price = price; freight = freight; voucher = held.voucher })
 priced_by key held other = None
 
 abbrev pub priced : (ProductKey → Look) → (ProductKey × Held) → Option PricedLine
@@ -139,19 +148,26 @@ priced look line = priced_by line.0 line.1 (look line.0)
 
 -- the least product of the basket that is not live
 abbrev pub first_gone : (ProductKey → Look) → List (ProductKey × Held) → Option ProductKey
-first_gone look basket = option_map (λ (e : ProductKey × Held). e.0) (find (λ (e : ProductKey × Held). not (is_live (look e.0))) basket)
+first_gone look basket =
+    option_map (λ (e : ProductKey
+    × Held). e.0) (find (λ (e : ProductKey × Held). not (is_live (look e.0))) basket)
 
--- a checkout of an empty basket is undone, and one with a product that is not live; any other is sent on to stock
-abbrev pub checkout_rows : RequestId → ℕ → (ProductKey → Look) → List (ProductKey × Held) → Option ProductKey → List Sending
+-- a checkout of an empty basket is undone, and one with a product that is not live; any other is sent on to
+-- stock
+abbrev pub checkout_rows : RequestId → ℕ → (ProductKey → Look) → List (ProductKey × Held) → Option ProductKey
+    → List Sending
 checkout_rows id customer look [] first = told cart_node id (reply.Undone undone.CartEmpty) ∷ []
 checkout_rows id customer look (e ∷ es) (Some key) = told cart_node id (reply.Undone (undone.Gone key)) ∷ []
-checkout_rows id customer look (e ∷ es) None = (Service 2, body.Reserve id customer (filter_map (priced look) (e ∷ es))) ∷ []
+checkout_rows id customer look (e ∷ es) None =
+    (CART_TO_STOCK, body.Reserve id customer (filter_map (priced look) (e ∷ es))) ∷ []
 
 abbrev pub cart_asked : CartSums → RequestId → Ask → List Sending
 cart_asked s id (ask.View key) = view_rows id (s.look key)
-cart_asked s id (ask.Line customer key quantity voucher) = line_rows id key quantity (s.look key) (s.basket customer)
+cart_asked s id (ask.Line customer key quantity voucher) =
+    line_rows id key quantity (s.look key) (s.basket customer)
 cart_asked s id (ask.Remove customer key) = remove_rows id key (s.basket customer)
-cart_asked s id (ask.Checkout customer) = checkout_rows id customer s.look (s.basket customer) (first_gone s.look (s.basket customer))
+cart_asked s id (ask.Checkout customer) =
+    checkout_rows id customer s.look (s.basket customer) (first_gone s.look (s.basket customer))
 cart_asked s id other = []
 
 -- why a checkout is undone that stock or payment refused
@@ -169,6 +185,7 @@ reply_to_ending (ending.Undone rule) = reply.Undone (undone_by_payment rule)
 
 abbrev pub cart_rows : CartSums → Body → List Sending
 cart_rows s (body.Asked request) = cart_asked s request.id request.ask
-cart_rows s (body.ReserveFailed checkout key rule) = told cart_node checkout (reply.Undone (undone_by_stock rule key)) ∷ []
+cart_rows s (body.ReserveFailed checkout key rule) =
+    told cart_node checkout (reply.Undone (undone_by_stock rule key)) ∷ []
 cart_rows s (body.Ended checkout ending) = told cart_node checkout (reply_to_ending ending) ∷ []
 cart_rows s other = []

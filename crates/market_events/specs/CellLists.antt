@@ -1,5 +1,6 @@
 -- Cells that are put one after the other, as entries by rising name, and what stands last at a name.
-use Rattle.std.specs.Prelude.{◌≡◌, ℕ, true, is_some, List, Option, Some, None, map, filter_map, fold, if◌then◌else◌}
+use Rattle.std.specs.Prelude.{◌≡◌, ℕ, true, is_some, List, Option, Some, None, map, filter_map, fold}
+use Rattle.std.specs.Prelude.{if◌then◌else◌}
 use Rattle.std.specs.FinMap.Entries as entries
 use Rattle.market_events.specs.declared.cells.Cell.{Cell}
 use Rattle.market_events.specs.declared.cells.CellName.{CellName}
@@ -21,7 +22,8 @@ put_some es None = es
 put_some es (Some c) = put_cell es c
 
 -- the cell of each of these, where it has one
-abbrev pub put_each : {A : Type 0} → (A → Option Cell) → List (CellName × List ℕ) → List A → List (CellName × List ℕ)
+abbrev pub put_each : {A : Type 0} → (A → Option Cell) → List (CellName × List ℕ) → List A
+    → List (CellName × List ℕ)
 put_each cell_of es xs = fold (λ es x. put_some es (cell_of x)) es xs
 
 -- the entries as cells

@@ -28,9 +28,10 @@ basket_name table line = name_in table (basket_key line.0 line.1)
 
 abbrev pub basket_of_pieces : List (List ℕ) → Result (ℕ × ProductKey) WordFault
 basket_of_pieces (customer ∷ seller ∷ product ∷ []) =
-    number_id customer >>= λ c. number_id seller >>= λ s. number_id product >>= λ p. Ok (c, record { seller = s; product = p })
+    number_id customer >>= λ c. number_id seller >>= λ s. number_id product >>= λ p. Ok
+    (c, record { seller = s; product = p })
 basket_of_pieces other = Err Field
 
 -- CUSTOMER:SELLER:PRODUCT
-abbrev pub basket_of : List ℕ → Result (ℕ × ProductKey) WordFault
-basket_of text = basket_of_pieces (pieces 58 text)
+abbrev pub basket_line_of : List ℕ → Result (ℕ × ProductKey) WordFault
+basket_line_of text = basket_of_pieces (pieces 58 text)

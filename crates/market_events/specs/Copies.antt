@@ -52,11 +52,12 @@ abbrev pub look_of : Option ProductChange → Option ℕ → Option ℕ → Look
 look_of None price freight = Unknown
 look_of (Some c) price freight = shown c.version c.change price freight
 
--- the copy: Unknown where no change is of the product; Gone with the last change's version where that change is
--- Deleted; else Live with the last change's version, the last price and the last freight
+-- the copy: Unknown where no change is of the product; Gone with the last change's version where that change
+-- is Deleted; else Live with the last change's version, the last price and the last freight
 abbrev pub copy_of : List ProductChange → ProductKey → Look
 copy_of changes key =
-    look_of (last_some (change_of key) changes) (last_some (price_set key) changes) (last_some (freight_set key) changes)
+    look_of (last_some (change_of key) changes) (last_some (price_set key) changes)
+    (last_some (freight_set key) changes)
 
 -- how many changes the product had
 abbrev pub version_of : List ProductChange → ProductKey → ℕ

@@ -13,4 +13,5 @@ with_raised counts link number = slice_set counts link (max (slice_index counts 
 
 -- each count is the greater of the two
 abbrev pub IsMergeOf : List ℕ → List ℕ → List ℕ → Type 0
-IsMergeOf new old other = (k : ℕ) → k < SERVICE_LINKS → slice_index new k ≡ max (slice_index old k) (slice_index other k)
+IsMergeOf new old other =
+    (k : ℕ) → k < SERVICE_LINKS → slice_index new k ≡ max (slice_index old k) (slice_index other k)

@@ -1,5 +1,5 @@
 -- Customers: what they answer, by the payments and the deliveries that were taken.
-use Rattle.std.specs.Prelude.{ℕ, ◌+◌, Bool, true, false, ◌==◌, List, [], ◌∷◌}
+use Rattle.std.specs.Prelude.{ℕ, Bool, false, ◌==◌, List, [], ◌∷◌}
 use Rattle.std.specs.List.{count_by}
 use Rattle.market_amounts.specs.declared.keys.RequestId.{RequestId}
 use Rattle.market_events.specs.declared.bodies.Body.{Body}
@@ -8,7 +8,6 @@ use Rattle.market_events.specs.declared.bodies.Item.{Item}
 use Rattle.market_events.specs.declared.replies.Reply.TheVariants as reply
 use Rattle.market_events.specs.declared.requests.Ask.{Ask}
 use Rattle.market_events.specs.declared.requests.Ask.TheVariants as ask
-use Rattle.market_events.specs.declared.requests.Request.{Request}
 use Rattle.market_events.specs.Links.{customer_node}
 use Rattle.market_events.specs.Orders.{items_taken}
 use Rattle.market_events.specs.Steps.{Step, Sending, taken_bodies, told}
@@ -37,11 +36,17 @@ pub record CustomerSums : Type 0 where
   pub delivered : ℕ → ℕ
 
 abbrev pub customer_sums : List Step → CustomerSums
-customer_sums steps = record { confirmed = confirmed_count steps; failed = failed_count steps; delivered = delivered_count steps }
+customer_sums steps =
+    record {
+      confirmed = confirmed_count steps;
+      failed = failed_count steps;
+      delivered = delivered_count steps;
+    }
 
 abbrev pub customer_asked : CustomerSums → RequestId → Ask → List Sending
 customer_asked s id (ask.Customer customer) =
-    told customer_node id (reply.Customer (s.confirmed customer) (s.failed customer) (s.delivered customer)) ∷ []
+    told customer_node id (reply.Customer (s.confirmed customer) (s.failed customer) (s.delivered customer))
+    ∷ []
 customer_asked s id other = []
 
 abbrev pub customer_rows : CustomerSums → Body → List Sending

@@ -1,5 +1,6 @@
--- What the examples speak of, and the base workload: what each service takes of it, in order, and what it makes.
--- Customer 7 of caller 7 buys two mugs of the three that are stocked, with a voucher, and pays by card.
+-- What the examples speak of, and the base workload: what each service takes of it, in order, and what it
+-- makes. Customer 7 of caller 7 buys two mugs of the three that are stocked, with a voucher, and pays by
+-- card.
 use Rattle.std.specs.Prelude.{ℕ, List, [], ◌∷◌}
 use Rattle.market_amounts.specs.declared.keys.ProductKey.{ProductKey}
 use Rattle.market_amounts.specs.declared.keys.RequestId.{RequestId}

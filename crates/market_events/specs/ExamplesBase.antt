@@ -1,8 +1,9 @@
 -- The base workload at each service: a run, and on each link what one service made and the other took.
-use Rattle.std.specs.Prelude.{◌≡◌, ℕ, List, [], ◌∷◌, filter_map}
+use Rattle.std.specs.Prelude.{◌≡◌, List, [], ◌∷◌, filter_map}
 use Rattle.market_events.specs.declared.bodies.Body.{Body}
-use Rattle.market_events.specs.declared.links.Link.TheVariants.{Service}
-use Rattle.market_events.specs.Examples.{mug_change, mug_reserve, mug_reserved, mug_invoice, mug_paid, mug_shipped, mug_ended}
+use Rattle.market_events.specs.declared.links.Link.{Link}
+use Rattle.market_events.specs.Examples.{mug_change, mug_reserve, mug_reserved, mug_invoice, mug_paid}
+use Rattle.market_events.specs.Examples.{mug_shipped, mug_ended}
 use Rattle.market_events.specs.ExamplesCart.{mug_is_ended}
 use Rattle.market_events.specs.ExamplesCustomer as customer
 use Rattle.market_events.specs.ExamplesOrder.{mug_is_shipped}
@@ -13,6 +14,13 @@ use Rattle.market_events.specs.ExamplesShipment as shipment
 use Rattle.market_events.specs.ExamplesStock.{two_paid}
 use Rattle.market_events.specs.Services.{Role, IsRunOf}
 use Rattle.market_events.specs.Steps.{Step, made_on, body_on}
+use Rattle.market_events.specs.declared.links.TheConstants.{PRODUCT_TO_CART, PRODUCT_TO_STOCK, CART_TO_STOCK}
+use Rattle.market_events.specs.declared.links.TheConstants.{STOCK_TO_CART, STOCK_TO_ORDER, ORDER_TO_PAYMENT}
+use Rattle.market_events.specs.declared.links.TheConstants.{ORDER_TO_SELLER, ORDER_TO_CART, PAYMENT_TO_STOCK}
+use Rattle.market_events.specs.declared.links.TheConstants.{PAYMENT_TO_ORDER, PAYMENT_TO_SHIPMENT}
+use Rattle.market_events.specs.declared.links.TheConstants.{PAYMENT_TO_CUSTOMER, PAYMENT_TO_SELLER}
+use Rattle.market_events.specs.declared.links.TheConstants.{SHIPMENT_TO_ORDER, SHIPMENT_TO_SELLER}
+use Rattle.market_events.specs.declared.links.TheConstants.{SHIPMENT_TO_CUSTOMER}
 
 -- what each service took of it, and made
 abbrev pub cart_of_base : List Step
@@ -39,13 +47,14 @@ customer_of_base = customer.base_paid
 abbrev pub seller_of_base : List Step
 seller_of_base = seller.base_shipped
 
--- the bodies that were taken on a service link
-abbrev pub taken_on : ℕ → List Step → List Body
-taken_on n steps = filter_map (λ (s : Step). body_on (Service n) (s.from, s.body)) steps
+-- the bodies that were taken on a link
+abbrev pub bodies_taken_on : Link → List Step → List Body
+bodies_taken_on link steps = filter_map (λ (s : Step). body_on link (s.from, s.body)) steps
 
--- on the link n one service makes these bodies, and the other takes them
-abbrev pub Crosses : ℕ → List Step → List Step → List Body → Type 0
-Crosses n sender receiver bodies = (made_on n sender ≡ bodies) × (taken_on n receiver ≡ bodies)
+-- on the link one service makes these bodies, and the other takes them
+abbrev pub Crosses : Link → List Step → List Step → List Body → Type 0
+Crosses link sender receiver bodies =
+    (made_on link sender ≡ bodies) × (bodies_taken_on link receiver ≡ bodies)
 
 pub record BaseRuns : Type 0 where
   pub cart : IsRunOf Role.Cart cart_of_base
@@ -58,22 +67,22 @@ pub record BaseRuns : Type 0 where
   pub seller : IsRunOf Role.Seller seller_of_base
 
 pub record BaseLinks : Type 0 where
-  pub link_0 : Crosses 0 product_of_base cart_of_base (mug_change ∷ [])
-  pub link_1 : Crosses 1 product_of_base stock_of_base (mug_change ∷ [])
-  pub link_2 : Crosses 2 cart_of_base stock_of_base (mug_reserve ∷ [])
-  pub link_3 : Crosses 3 stock_of_base cart_of_base []
-  pub link_4 : Crosses 4 stock_of_base order_of_base (mug_reserved ∷ [])
-  pub link_5 : Crosses 5 order_of_base payment_of_base (mug_invoice ∷ [])
-  pub link_6 : Crosses 6 order_of_base seller_of_base (mug_invoice ∷ [])
-  pub link_7 : Crosses 7 order_of_base cart_of_base (mug_ended ∷ [])
-  pub link_8 : Crosses 8 payment_of_base stock_of_base (mug_paid ∷ [])
-  pub link_9 : Crosses 9 payment_of_base order_of_base (mug_paid ∷ [])
-  pub link_10 : Crosses 10 payment_of_base shipment_of_base (mug_paid ∷ [])
-  pub link_11 : Crosses 11 payment_of_base customer_of_base (mug_paid ∷ [])
-  pub link_12 : Crosses 12 payment_of_base seller_of_base (mug_paid ∷ [])
-  pub link_13 : Crosses 13 shipment_of_base order_of_base (mug_shipped ∷ [])
-  pub link_14 : Crosses 14 shipment_of_base seller_of_base (mug_shipped ∷ [])
-  pub link_15 : Crosses 15 shipment_of_base customer_of_base []
+  pub product_to_cart : Crosses PRODUCT_TO_CART product_of_base cart_of_base (mug_change ∷ [])
+  pub product_to_stock : Crosses PRODUCT_TO_STOCK product_of_base stock_of_base (mug_change ∷ [])
+  pub cart_to_stock : Crosses CART_TO_STOCK cart_of_base stock_of_base (mug_reserve ∷ [])
+  pub stock_to_cart : Crosses STOCK_TO_CART stock_of_base cart_of_base []
+  pub stock_to_order : Crosses STOCK_TO_ORDER stock_of_base order_of_base (mug_reserved ∷ [])
+  pub order_to_payment : Crosses ORDER_TO_PAYMENT order_of_base payment_of_base (mug_invoice ∷ [])
+  pub order_to_seller : Crosses ORDER_TO_SELLER order_of_base seller_of_base (mug_invoice ∷ [])
+  pub order_to_cart : Crosses ORDER_TO_CART order_of_base cart_of_base (mug_ended ∷ [])
+  pub payment_to_stock : Crosses PAYMENT_TO_STOCK payment_of_base stock_of_base (mug_paid ∷ [])
+  pub payment_to_order : Crosses PAYMENT_TO_ORDER payment_of_base order_of_base (mug_paid ∷ [])
+  pub payment_to_shipment : Crosses PAYMENT_TO_SHIPMENT payment_of_base shipment_of_base (mug_paid ∷ [])
+  pub payment_to_customer : Crosses PAYMENT_TO_CUSTOMER payment_of_base customer_of_base (mug_paid ∷ [])
+  pub payment_to_seller : Crosses PAYMENT_TO_SELLER payment_of_base seller_of_base (mug_paid ∷ [])
+  pub shipment_to_order : Crosses SHIPMENT_TO_ORDER shipment_of_base order_of_base (mug_shipped ∷ [])
+  pub shipment_to_seller : Crosses SHIPMENT_TO_SELLER shipment_of_base seller_of_base (mug_shipped ∷ [])
+  pub shipment_to_customer : Crosses SHIPMENT_TO_CUSTOMER shipment_of_base customer_of_base []
 
 pub record BaseExamples : Type 0 where
   pub runs : BaseRuns

@@ -6,11 +6,14 @@ use Rattle.market_events.specs.declared.bodies.PayRule.TheVariants as pay
 use Rattle.market_events.specs.declared.bodies.StockRule.TheVariants as stock
 use Rattle.market_events.specs.declared.changes.Change.{Change}
 use Rattle.market_events.specs.declared.changes.Change.TheVariants as change
-use Rattle.market_events.specs.declared.links.Link.TheVariants.{Service, Asked}
+use Rattle.market_events.specs.declared.links.Link.TheVariants.{Asked}
+use Rattle.market_events.specs.declared.links.TheConstants.{PRODUCT_TO_CART, PRODUCT_TO_STOCK, CART_TO_STOCK}
+use Rattle.market_events.specs.declared.links.TheConstants.{STOCK_TO_CART, ORDER_TO_CART}
 use Rattle.market_events.specs.declared.replies.Reply.TheVariants as reply
 use Rattle.market_events.specs.declared.replies.UndoneRule.TheVariants as undone
 use Rattle.market_events.specs.declared.requests.Ask.TheVariants as ask
-use Rattle.market_events.specs.Examples.{an_id, request, answer, makes, mug, basket, mug_change, mug_reserve, mug_ended}
+use Rattle.market_events.specs.Examples.{an_id, request, answer, makes, mug, basket, mug_change, mug_reserve}
+use Rattle.market_events.specs.Examples.{mug_ended}
 use Rattle.market_events.specs.ExamplesCart.{sees, sees_mug, sees_cup, lines_mug, mug_is_out, mug_is_ended}
 use Rattle.market_events.specs.ExamplesProduct.{mug_created, mug_changes}
 use Rattle.market_events.specs.Services.{Role, fits, reactions}
@@ -28,14 +31,14 @@ mug_is_gone = sees_mug ∷ sees mug 2 change.Deleted ∷ []
 
 -- a change of the mug on link 0
 abbrev pub mug_sent : ℕ → Change → Sending
-mug_sent version change = (Service 0, body.Changed mug version change)
+mug_sent version change = (PRODUCT_TO_CART, body.Changed mug version change)
 
 -- stock or orders tell of checkout 5
 abbrev pub stock_fails : Sending
-stock_fails = (Service 3, body.ReserveFailed basket mug stock.Short)
+stock_fails = (STOCK_TO_CART, body.ReserveFailed basket mug stock.Short)
 
 abbrev pub order_ends : Sending
-order_ends = (Service 7, mug_ended)
+order_ends = (ORDER_TO_CART, mug_ended)
 
 abbrev pub mug_failed : List Step
 mug_failed = mug_is_out ++ makes stock_fails (answer 0 5 (reply.Undone (undone.Short mug)) ∷ []) ∷ []
@@ -57,7 +60,8 @@ pub record CartRequestFits : Type 0 where
       reactions Role.Cart mug_is_out (Asked 7 0) (body.Asked (record { id = an_id 7 9; ask = ask.View mug }))
       ≡ answer 0 9 (reply.View 1 1000 50) ∷ []
   pub request_again_is_not :
-      reactions Role.Cart mug_is_out (Asked 7 0) (body.Asked (record { id = an_id 7 4; ask = ask.View mug })) ≡ []
+      reactions Role.Cart mug_is_out (Asked 7 0) (body.Asked (record { id = an_id 7 4; ask = ask.View mug }))
+      ≡ []
 
 pub record CartChangeFits : Type 0 where
   pub first_creation : cart_takes [] (mug_sent 1 (change.Created 1000 50)) ≡ true
@@ -74,24 +78,28 @@ pub record CartChangeFits : Type 0 where
   pub creation_of_gone : cart_takes mug_is_gone (mug_sent 3 (change.Created 900 40)) ≡ true
   pub creation_of_gone_starts_anew : cart_takes mug_is_gone (mug_sent 1 (change.Created 900 40)) ≡ false
   pub price_above_the_range : cart_takes (sees_mug ∷ []) (mug_sent 2 (change.Priced 1000000001)) ≡ false
-  pub change_for_stock : cart_takes [] (Service 1, mug_change) ≡ false
-  pub change_on_the_link_from_stock : cart_takes [] (Service 3, mug_change) ≡ false
+  pub change_for_stock : cart_takes [] (PRODUCT_TO_STOCK, mug_change) ≡ false
+  pub change_on_the_link_from_stock : cart_takes [] (STOCK_TO_CART, mug_change) ≡ false
 
 pub record CartEndFits : Type 0 where
   pub stock_fails_the_checkout : cart_takes mug_is_out stock_fails ≡ true
   pub stock_fails_without_reserve : cart_takes (sees_mug ∷ lines_mug ∷ []) stock_fails ≡ false
-  pub stock_fails_other_checkout : cart_takes mug_is_out (Service 3, body.ReserveFailed (an_id 7 6) mug stock.Short) ≡ false
+  pub stock_fails_other_checkout : cart_takes mug_is_out
+      (STOCK_TO_CART, body.ReserveFailed (an_id 7 6) mug stock.Short) ≡ false
   pub stock_fails_twice : cart_takes mug_failed stock_fails ≡ false
   pub stock_fails_after_the_end : cart_takes mug_is_ended stock_fails ≡ false
-  pub stock_fails_on_the_link_from_orders : cart_takes mug_is_out (Service 7, body.ReserveFailed basket mug stock.Short) ≡ false
+  pub stock_fails_on_the_link_from_orders : cart_takes mug_is_out
+      (ORDER_TO_CART, body.ReserveFailed basket mug stock.Short) ≡ false
   pub order_ends_the_checkout : cart_takes mug_is_out order_ends ≡ true
-  pub order_ends_it_undone : cart_takes mug_is_out (Service 7, body.Ended basket (ending.Undone pay.NoCard)) ≡ true
+  pub order_ends_it_undone : cart_takes mug_is_out
+      (ORDER_TO_CART, body.Ended basket (ending.Undone pay.NoCard)) ≡ true
   pub order_ends_without_reserve : cart_takes (sees_mug ∷ lines_mug ∷ []) order_ends ≡ false
-  pub order_ends_other_checkout : cart_takes mug_is_out (Service 7, body.Ended (an_id 7 6) (ending.Whole 1950)) ≡ false
+  pub order_ends_other_checkout : cart_takes mug_is_out
+      (ORDER_TO_CART, body.Ended (an_id 7 6) (ending.Whole 1950)) ≡ false
   pub order_ends_twice : cart_takes mug_is_ended order_ends ≡ false
   pub order_ends_after_stock_failed : cart_takes mug_failed order_ends ≡ false
-  pub order_ends_on_the_link_from_stock : cart_takes mug_is_out (Service 3, mug_ended) ≡ false
-  pub reserve_is_for_stock : cart_takes mug_is_out (Service 2, mug_reserve) ≡ false
+  pub order_ends_on_the_link_from_stock : cart_takes mug_is_out (STOCK_TO_CART, mug_ended) ≡ false
+  pub reserve_is_for_stock : cart_takes mug_is_out (CART_TO_STOCK, mug_reserve) ≡ false
   pub reply_is_for_a_lane : cart_takes mug_is_out (answer 0 5 (reply.Whole 1950)) ≡ false
 
 pub record CartFits : Type 0 where
@@ -102,13 +110,16 @@ pub record CartFits : Type 0 where
 pub record ProductFits : Type 0 where
   pub new_request : product_takes (mug_created ∷ []) (request 1 9 (ask.Price mug 1200)) ≡ true
   pub request_again : product_takes (mug_created ∷ []) (request 1 1 (ask.Create mug 1000 50)) ≡ false
-  pub id_again_with_other_request : product_takes (mug_created ∷ []) (request 1 1 (ask.Price mug 1200)) ≡ false
+  pub id_again_with_other_request : product_takes (mug_created ∷ []) (request 1 1 (ask.Price mug 1200))
+      ≡ false
   pub view_is_for_the_cart : product_takes (mug_created ∷ []) (request 1 9 (ask.View mug)) ≡ false
   pub price_in_the_range : product_takes [] (request 1 9 (ask.Create mug 1000000000 1000000000)) ≡ true
   pub freight_above_the_range : product_takes [] (request 1 9 (ask.Create mug 1000 1000000001)) ≡ false
-  pub change_is_for_the_cart : product_takes (mug_created ∷ []) (Service 0, mug_change) ≡ false
+  pub change_is_for_the_cart : product_takes (mug_created ∷ []) (PRODUCT_TO_CART, mug_change) ≡ false
   pub new_request_is_answered :
-      reactions Role.Product (mug_created ∷ []) (Asked 7 1) (body.Asked (record { id = an_id 7 9; ask = ask.Price mug 1200 }))
+      reactions Role.Product (mug_created
+      ∷ []) (Asked 7 1) (body.Asked (record { id = an_id 7 9; ask = ask.Price mug 1200 }))
       ≡ mug_changes 9 2 (change.Priced 1200) (reply.Priced 2)
   pub request_again_is_not :
-      reactions Role.Product (mug_created ∷ []) (Asked 7 1) (body.Asked (record { id = an_id 7 1; ask = ask.Price mug 1200 })) ≡ []
+      reactions Role.Product (mug_created
+      ∷ []) (Asked 7 1) (body.Asked (record { id = an_id 7 1; ask = ask.Price mug 1200 })) ≡ []

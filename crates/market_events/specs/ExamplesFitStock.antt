@@ -7,10 +7,14 @@ use Rattle.market_events.specs.declared.bodies.PricedLine.{PricedLine}
 use Rattle.market_events.specs.declared.bodies.StockRule.TheVariants as stock
 use Rattle.market_events.specs.declared.changes.Change.{Change}
 use Rattle.market_events.specs.declared.changes.Change.TheVariants as change
-use Rattle.market_events.specs.declared.links.Link.TheVariants.{Service}
+use Rattle.market_events.specs.declared.links.TheConstants.{PRODUCT_TO_CART, PRODUCT_TO_STOCK, CART_TO_STOCK}
+use Rattle.market_events.specs.declared.links.TheConstants.{STOCK_TO_CART, STOCK_TO_ORDER, PAYMENT_TO_STOCK}
+use Rattle.market_events.specs.declared.links.TheConstants.{PAYMENT_TO_ORDER}
 use Rattle.market_events.specs.declared.requests.Ask.TheVariants as ask
-use Rattle.market_events.specs.Examples.{a_key, an_id, a_line, request, makes, mug, basket, mug_change, mug_lines, mug_reserve, mug_reserved, mug_paid}
-use Rattle.market_events.specs.ExamplesStock.{hears, hears_mug, three_mugs, two_reserved, two_paid, two_set_free, three_products, reserve, mugs, cups, pots}
+use Rattle.market_events.specs.Examples.{a_key, an_id, a_line, request, makes, mug, basket, mug_change}
+use Rattle.market_events.specs.Examples.{mug_lines, mug_reserve, mug_reserved, mug_paid}
+use Rattle.market_events.specs.ExamplesStock.{hears, hears_mug, three_mugs, two_reserved, two_paid}
+use Rattle.market_events.specs.ExamplesStock.{two_set_free, three_products, reserve, mugs, cups, pots}
 use Rattle.market_events.specs.Services.{Role, fits, reactions}
 use Rattle.market_events.specs.Steps.{Step, Sending}
 
@@ -19,23 +23,24 @@ stock_takes steps taken = fits Role.Stock steps taken.0 taken.1
 
 -- a change of the mug on link 1
 abbrev pub mug_told : ℕ → Change → Sending
-mug_told version change = (Service 1, body.Changed mug version change)
+mug_told version change = (PRODUCT_TO_STOCK, body.Changed mug version change)
 
 abbrev pub mug_is_gone : List Step
 mug_is_gone = hears_mug ∷ hears mug 2 change.Deleted ∷ []
 
 -- the base workload's reserve, that it was refused, and what payments tell of it
 abbrev pub base_reserve : Sending
-base_reserve = (Service 2, mug_reserve)
+base_reserve = (CART_TO_STOCK, mug_reserve)
 
 abbrev pub none_reserved : List Step
-none_reserved = hears_mug ∷ makes base_reserve ((Service 3, body.ReserveFailed basket mug stock.Short) ∷ []) ∷ []
+none_reserved =
+    hears_mug ∷ makes base_reserve ((STOCK_TO_CART, body.ReserveFailed basket mug stock.Short) ∷ []) ∷ []
 
 abbrev pub paid : Sending
-paid = (Service 8, mug_paid)
+paid = (PAYMENT_TO_STOCK, mug_paid)
 
 abbrev pub not_paid : Sending
-not_paid = (Service 8, body.Failed basket 7 pay.NoCard)
+not_paid = (PAYMENT_TO_STOCK, body.Failed basket 7 pay.NoCard)
 
 -- one piece of each of the products 1 to n of seller 8, which all are known
 abbrev pub eights : ℕ → List PricedLine
@@ -61,7 +66,7 @@ pub record StockChangeFits : Type 0 where
   pub creation_of_live : stock_takes three_mugs (mug_told 2 (change.Created 900 40)) ≡ false
   pub creation_of_gone : stock_takes mug_is_gone (mug_told 3 (change.Created 900 40)) ≡ true
   pub price_of_gone : stock_takes mug_is_gone (mug_told 3 (change.Priced 1200)) ≡ false
-  pub change_for_the_cart : stock_takes [] (Service 0, mug_change) ≡ false
+  pub change_for_the_cart : stock_takes [] (PRODUCT_TO_CART, mug_change) ≡ false
 
 pub record StockReserveFits : Type 0 where
   pub reserve_once : stock_takes three_mugs base_reserve ≡ true
@@ -69,7 +74,11 @@ pub record StockReserveFits : Type 0 where
   pub reserve_again : stock_takes two_reserved base_reserve ≡ false
   pub reserve_again_after_payment : stock_takes two_paid base_reserve ≡ false
   pub reserve_again_after_refusal : stock_takes none_reserved base_reserve ≡ false
-  pub checkout_again_with_other_lines : stock_takes two_reserved (Service 2, body.Reserve basket 7 (mugs 1 ∷ [])) ≡ false
+  pub checkout_again_with_other_lines : stock_takes two_reserved (
+    CART_TO_STOCK,
+    body.Reserve basket 7 (mugs 1
+        ∷ []),
+  ) ≡ false
   pub second_checkout : stock_takes two_reserved (reserve mug_lines) ≡ true
   pub reserve_of_unknown : stock_takes three_mugs (reserve (cups 1 ∷ [])) ≡ false
   pub reserve_with_an_unknown_line : stock_takes three_mugs (reserve (mugs 1 ∷ cups 1 ∷ [])) ≡ false
@@ -83,31 +92,39 @@ pub record StockReserveFits : Type 0 where
   pub line_of_1001_pieces : stock_takes three_products (reserve (mugs 1001 ∷ [])) ≡ false
   pub reserve_of_32_lines : stock_takes hears_33 (reserve (eights 32)) ≡ true
   pub reserve_of_33_lines : stock_takes hears_33 (reserve (eights 33)) ≡ false
-  pub reserve_on_the_link_from_payments : stock_takes three_mugs (Service 8, mug_reserve) ≡ false
-  pub confirmation_is_for_orders : stock_takes two_reserved (Service 4, mug_reserved) ≡ false
-  pub reserve_is_answered : reactions Role.Stock three_mugs (Service 2) mug_reserve ≡ (Service 4, mug_reserved) ∷ []
-  pub reserve_again_is_not : reactions Role.Stock two_reserved (Service 2) mug_reserve ≡ []
-  pub reserve_of_unknown_is_not : reactions Role.Stock [] (Service 2) mug_reserve ≡ []
+  pub reserve_on_the_link_from_payments : stock_takes three_mugs (PAYMENT_TO_STOCK, mug_reserve) ≡ false
+  pub confirmation_is_for_orders : stock_takes two_reserved (STOCK_TO_ORDER, mug_reserved) ≡ false
+  pub reserve_is_answered : reactions Role.Stock three_mugs CART_TO_STOCK mug_reserve
+      ≡ (STOCK_TO_ORDER, mug_reserved) ∷ []
+  pub reserve_again_is_not : reactions Role.Stock two_reserved CART_TO_STOCK mug_reserve ≡ []
+  pub reserve_of_unknown_is_not : reactions Role.Stock [] CART_TO_STOCK mug_reserve ≡ []
 
 pub record StockPaymentFits : Type 0 where
   pub payment : stock_takes two_reserved paid ≡ true
-  pub payment_of_other_customer : stock_takes two_reserved (Service 8, body.Confirmed basket 8 mug_lines 1950) ≡ false
-  pub payment_of_fewer_pieces : stock_takes two_reserved (Service 8, body.Confirmed basket 7 (a_line mug 1 1000 50 100 ∷ []) 950) ≡ false
-  pub payment_with_other_voucher : stock_takes two_reserved (Service 8, body.Confirmed basket 7 (a_line mug 2 1000 50 99 ∷ []) 1951) ≡ false
-  pub payment_with_one_more_line : stock_takes two_reserved (Service 8, body.Confirmed basket 7 (mug_lines ++ cups 1 ∷ []) 2040) ≡ false
-  pub payment_with_other_total : stock_takes two_reserved (Service 8, body.Confirmed basket 7 mug_lines 1949) ≡ false
+  pub payment_of_other_customer : stock_takes two_reserved
+      (PAYMENT_TO_STOCK, body.Confirmed basket 8 mug_lines 1950) ≡ false
+  pub payment_of_fewer_pieces : stock_takes two_reserved
+      (PAYMENT_TO_STOCK, body.Confirmed basket 7 (a_line mug 1 1000 50 100 ∷ []) 950) ≡ false
+  pub payment_with_other_voucher : stock_takes two_reserved
+      (PAYMENT_TO_STOCK, body.Confirmed basket 7 (a_line mug 2 1000 50 99 ∷ []) 1951) ≡ false
+  pub payment_with_one_more_line : stock_takes two_reserved
+      (PAYMENT_TO_STOCK, body.Confirmed basket 7 (mug_lines ++ cups 1 ∷ []) 2040) ≡ false
+  pub payment_with_other_total : stock_takes two_reserved
+      (PAYMENT_TO_STOCK, body.Confirmed basket 7 mug_lines 1949) ≡ false
   pub payment_without_reserve : stock_takes three_mugs paid ≡ false
   pub payment_after_refusal : stock_takes none_reserved paid ≡ false
   pub payment_twice : stock_takes two_paid paid ≡ false
   pub payment_after_failure : stock_takes two_set_free paid ≡ false
-  pub payment_for_orders : stock_takes two_reserved (Service 9, mug_paid) ≡ false
+  pub payment_for_orders : stock_takes two_reserved (PAYMENT_TO_ORDER, mug_paid) ≡ false
   pub failure : stock_takes two_reserved not_paid ≡ true
-  pub failure_of_other_customer : stock_takes two_reserved (Service 8, body.Failed basket 8 pay.NoCard) ≡ false
-  pub failure_of_other_checkout : stock_takes two_reserved (Service 8, body.Failed (an_id 7 6) 7 pay.NoCard) ≡ false
+  pub failure_of_other_customer : stock_takes two_reserved (PAYMENT_TO_STOCK, body.Failed basket 8 pay.NoCard)
+      ≡ false
+  pub failure_of_other_checkout : stock_takes two_reserved
+      (PAYMENT_TO_STOCK, body.Failed (an_id 7 6) 7 pay.NoCard) ≡ false
   pub failure_without_reserve : stock_takes three_mugs not_paid ≡ false
   pub failure_twice : stock_takes two_set_free not_paid ≡ false
   pub failure_after_payment : stock_takes two_paid not_paid ≡ false
-  pub shipment_is_for_orders : stock_takes two_paid (Service 8, body.Shipped basket) ≡ false
+  pub shipment_is_for_orders : stock_takes two_paid (PAYMENT_TO_STOCK, body.Shipped basket) ≡ false
 
 pub record StockFits : Type 0 where
   pub requests : StockRequestFits

@@ -3,7 +3,8 @@ use Rattle.std.specs.Prelude.{◌≡◌, ℕ, List, [], ◌∷◌}
 use Rattle.market_events.specs.declared.bodies.Body.TheVariants as body
 use Rattle.market_events.specs.declared.changes.Change.{Change}
 use Rattle.market_events.specs.declared.changes.Change.TheVariants as change
-use Rattle.market_events.specs.declared.links.Link.TheVariants.{Service, Asked, Told}
+use Rattle.market_events.specs.declared.links.Link.TheVariants.{Asked, Told}
+use Rattle.market_events.specs.declared.links.TheConstants.{PRODUCT_TO_CART, PRODUCT_TO_STOCK}
 use Rattle.market_events.specs.declared.replies.Reply.{Reply}
 use Rattle.market_events.specs.declared.replies.Reply.TheVariants as reply
 use Rattle.market_events.specs.declared.replies.Rule.TheVariants as rule
@@ -18,11 +19,13 @@ product_makes steps taken = answers Role.Product steps taken.0 taken.1
 -- this change of the mug on link 1, then on link 0, and then the reply
 abbrev pub mug_changes : ℕ → ℕ → Change → Reply → List Sending
 mug_changes number version change reply =
-    (Service 1, body.Changed mug version change) ∷ (Service 0, body.Changed mug version change) ∷ answer 1 number reply ∷ []
+    (PRODUCT_TO_STOCK, body.Changed mug version change) ∷ (PRODUCT_TO_CART, body.Changed mug version change)
+    ∷ answer 1 number reply ∷ []
 
 -- the mug is created, gets another price, and is deleted after its creation
 abbrev pub mug_created : Step
-mug_created = makes (request 1 1 (ask.Create mug 1000 50)) (mug_changes 1 1 (change.Created 1000 50) (reply.Created 1))
+mug_created =
+    makes (request 1 1 (ask.Create mug 1000 50)) (mug_changes 1 1 (change.Created 1000 50) (reply.Created 1))
 
 abbrev pub mug_priced : Step
 mug_priced = makes (request 1 2 (ask.Price mug 1200)) (mug_changes 2 2 (change.Priced 1200) (reply.Priced 2))
@@ -36,20 +39,25 @@ mug_refused = makes (request 1 2 (ask.Create mug 900 40)) (refusal 1 2 rule.Exis
 
 pub record ProductExamples : Type 0 where
   -- create
-  pub create_of_unknown : product_makes [] (request 1 1 (ask.Create mug 1000 50)) ≡ mug_changes 1 1 (change.Created 1000 50) (reply.Created 1)
-  pub create_of_live : product_makes (mug_created ∷ []) (request 1 2 (ask.Create mug 900 40)) ≡ refusal 1 2 rule.Exists ∷ []
+  pub create_of_unknown : product_makes [] (request 1 1 (ask.Create mug 1000 50))
+      ≡ mug_changes 1 1 (change.Created 1000 50) (reply.Created 1)
+  pub create_of_live : product_makes (mug_created ∷ []) (request 1 2 (ask.Create mug 900 40))
+      ≡ refusal 1 2 rule.Exists ∷ []
   pub create_after_delete_is_version_3 :
       product_makes (mug_created ∷ mug_deleted ∷ []) (request 1 3 (ask.Create mug 900 40))
       ≡ mug_changes 3 3 (change.Created 900 40) (reply.Created 3)
   pub create_of_other_is_version_1 :
       product_makes (mug_created ∷ mug_priced ∷ []) (request 1 3 (ask.Create cup 30 50))
-      ≡ (Service 1, body.Changed cup 1 (change.Created 30 50)) ∷ (Service 0, body.Changed cup 1 (change.Created 30 50))
+      ≡ (PRODUCT_TO_STOCK, body.Changed cup 1 (change.Created 30 50))
+      ∷ (PRODUCT_TO_CART, body.Changed cup 1 (change.Created 30 50))
       ∷ answer 1 3 (reply.Created 1) ∷ []
   -- price
   pub price_of_unknown : product_makes [] (request 1 1 (ask.Price mug 1200)) ≡ refusal 1 1 rule.Unknown ∷ []
-  pub price_of_gone : product_makes (mug_created ∷ mug_deleted ∷ []) (request 1 3 (ask.Price mug 1200)) ≡ refusal 1 3 rule.Gone ∷ []
+  pub price_of_gone : product_makes (mug_created ∷ mug_deleted ∷ []) (request 1 3 (ask.Price mug 1200))
+      ≡ refusal 1 3 rule.Gone ∷ []
   pub price_of_live :
-      product_makes (mug_created ∷ []) (request 1 2 (ask.Price mug 1200)) ≡ mug_changes 2 2 (change.Priced 1200) (reply.Priced 2)
+      product_makes (mug_created ∷ []) (request 1 2 (ask.Price mug 1200))
+      ≡ mug_changes 2 2 (change.Priced 1200) (reply.Priced 2)
   pub price_after_price_is_version_3 :
       product_makes (mug_created ∷ mug_priced ∷ []) (request 1 3 (ask.Price mug 1300))
       ≡ mug_changes 3 3 (change.Priced 1300) (reply.Priced 3)
@@ -58,13 +66,17 @@ pub record ProductExamples : Type 0 where
       ≡ mug_changes 3 2 (change.Priced 1200) (reply.Priced 2)
   -- delete
   pub delete_of_unknown : product_makes [] (request 1 1 (ask.Delete mug)) ≡ refusal 1 1 rule.Unknown ∷ []
-  pub delete_of_other : product_makes (mug_created ∷ []) (request 1 2 (ask.Delete cup)) ≡ refusal 1 2 rule.Unknown ∷ []
-  pub delete_of_gone : product_makes (mug_created ∷ mug_deleted ∷ []) (request 1 3 (ask.Delete mug)) ≡ refusal 1 3 rule.Gone ∷ []
-  pub delete_of_live : product_makes (mug_created ∷ []) (request 1 2 (ask.Delete mug)) ≡ mug_changes 2 2 change.Deleted (reply.Deleted 2)
+  pub delete_of_other : product_makes (mug_created ∷ []) (request 1 2 (ask.Delete cup))
+      ≡ refusal 1 2 rule.Unknown ∷ []
+  pub delete_of_gone : product_makes (mug_created ∷ mug_deleted ∷ []) (request 1 3 (ask.Delete mug))
+      ≡ refusal 1 3 rule.Gone ∷ []
+  pub delete_of_live : product_makes (mug_created ∷ []) (request 1 2 (ask.Delete mug))
+      ≡ mug_changes 2 2 change.Deleted (reply.Deleted 2)
   pub delete_after_price_is_version_3 :
-      product_makes (mug_created ∷ mug_priced ∷ []) (request 1 3 (ask.Delete mug)) ≡ mug_changes 3 3 change.Deleted (reply.Deleted 3)
+      product_makes (mug_created ∷ mug_priced ∷ []) (request 1 3 (ask.Delete mug))
+      ≡ mug_changes 3 3 change.Deleted (reply.Deleted 3)
   -- lane 4 is told of the requests of caller 20; another event is answered by nothing
   pub caller_20_is_told_on_lane_4 :
       product_makes [] (Asked 4 1, body.Asked (record { id = an_id 20 1; ask = ask.Delete mug }))
       ≡ (Told 1 4, body.Told (an_id 20 1) (reply.Refused rule.Unknown)) ∷ []
-  pub change_is_nothing : product_makes [] (Service 1, mug_change) ≡ []
+  pub change_is_nothing : product_makes [] (PRODUCT_TO_STOCK, mug_change) ≡ []

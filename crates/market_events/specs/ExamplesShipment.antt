@@ -5,10 +5,12 @@ use Rattle.market_amounts.specs.declared.keys.ProductKey.{ProductKey}
 use Rattle.market_events.specs.declared.bodies.Body.TheVariants as body
 use Rattle.market_events.specs.declared.bodies.Item.{Item}
 use Rattle.market_events.specs.declared.bodies.PricedLine.{PricedLine}
-use Rattle.market_events.specs.declared.links.Link.TheVariants.{Service}
+use Rattle.market_events.specs.declared.links.TheConstants.{PAYMENT_TO_SHIPMENT, SHIPMENT_TO_ORDER}
+use Rattle.market_events.specs.declared.links.TheConstants.{SHIPMENT_TO_SELLER, SHIPMENT_TO_CUSTOMER}
 use Rattle.market_events.specs.declared.replies.Reply.TheVariants as reply
 use Rattle.market_events.specs.declared.requests.Ask.TheVariants as ask
-use Rattle.market_events.specs.Examples.{a_key, an_id, a_line, an_item, request, answer, makes, mug, cup, pot, basket, mug_paid, mug_shipped}
+use Rattle.market_events.specs.Examples.{a_key, an_id, a_line, an_item, request, answer, makes, mug, cup, pot}
+use Rattle.market_events.specs.Examples.{basket, mug_paid, mug_shipped}
 use Rattle.market_events.specs.Services.{Role, answers}
 use Rattle.market_events.specs.Steps.{Step, Sending}
 
@@ -21,8 +23,8 @@ piece_of key = a_line key 1 100 0 0
 
 abbrev pub ships : ℕ → ℕ → List ProductKey → Step
 ships n total keys =
-    makes (Service 10, body.Confirmed (an_id 7 n) 7 (map piece_of keys) total)
-    ((Service 14, body.Shipped (an_id 7 n)) ∷ (Service 13, body.Shipped (an_id 7 n)) ∷ [])
+    makes (PAYMENT_TO_SHIPMENT, body.Confirmed (an_id 7 n) 7 (map piece_of keys) total)
+    ((SHIPMENT_TO_SELLER, body.Shipped (an_id 7 n)) ∷ (SHIPMENT_TO_ORDER, body.Shipped (an_id 7 n)) ∷ [])
 
 -- the request with this number asks for a delivery, which is of these sellers and packages
 abbrev pub deliver : ℕ → Sending
@@ -30,14 +32,17 @@ deliver number = request 5 number ask.Deliver
 
 abbrev pub arrive : ℕ → ℕ → ℕ → List Item → List Sending
 arrive number sellers count items =
-    (Service 15, body.Delivered items) ∷ (Service 14, body.Delivered items) ∷ (Service 13, body.Delivered items)
+    (SHIPMENT_TO_CUSTOMER, body.Delivered items) ∷ (SHIPMENT_TO_SELLER, body.Delivered items)
+    ∷ (SHIPMENT_TO_ORDER, body.Delivered items)
     ∷ answer 5 number (reply.Delivered sellers count) ∷ []
 
 abbrev pub nothing_arrives : ℕ → List Sending
 nothing_arrives number = answer 5 number (reply.Delivered 0 0) ∷ []
 
 abbrev pub base_shipped : List Step
-base_shipped = makes (Service 10, mug_paid) ((Service 14, mug_shipped) ∷ (Service 13, mug_shipped) ∷ []) ∷ []
+base_shipped =
+    makes (PAYMENT_TO_SHIPMENT, mug_paid) ((SHIPMENT_TO_SELLER, mug_shipped)
+    ∷ (SHIPMENT_TO_ORDER, mug_shipped) ∷ []) ∷ []
 
 -- checkout 1 is of seller 30, and checkout 2 of the sellers 1 to 10: eleven packages
 abbrev pub of_seller : ℕ → ProductKey
@@ -48,7 +53,8 @@ eleven_sellers = ships 1 100 (of_seller 30 ∷ []) ∷ ships 2 1000 (map of_sell
 
 -- the ten oldest packages are of seller 30 and of the sellers 1 to 9, and then comes that of seller 10
 abbrev pub ten_items : List Item
-ten_items = an_item (an_id 7 1) (of_seller 30) ∷ map (λ seller. an_item (an_id 7 2) (of_seller seller)) (range_with_len 1 9)
+ten_items = an_item (an_id 7 1) (of_seller 30)
+    ∷ map (λ seller. an_item (an_id 7 2) (of_seller seller)) (range_with_len 1 9)
 
 abbrev pub last_item : List Item
 last_item = an_item (an_id 7 2) (of_seller 10) ∷ []
@@ -77,18 +83,22 @@ abbrev pub both_items : List Item
 both_items = an_item (an_id 7 1) mug ∷ an_item (an_id 7 2) pot ∷ []
 
 pub record ShipmentExamples : Type 0 where
-  pub payment_is_shipped : shipment_makes [] (Service 10, mug_paid) ≡ (Service 14, mug_shipped) ∷ (Service 13, mug_shipped) ∷ []
+  pub payment_is_shipped : shipment_makes [] (PAYMENT_TO_SHIPMENT, mug_paid)
+      ≡ (SHIPMENT_TO_SELLER, mug_shipped) ∷ (SHIPMENT_TO_ORDER, mug_shipped) ∷ []
   pub deliver_none : shipment_makes [] (deliver 9) ≡ nothing_arrives 9
   pub deliver_base : shipment_makes base_shipped (deliver 9) ≡ arrive 9 1 1 (an_item basket mug ∷ [])
   pub deliver_base_again :
-      shipment_makes (base_shipped ++ makes (deliver 8) (arrive 8 1 1 (an_item basket mug ∷ [])) ∷ []) (deliver 9) ≡ nothing_arrives 9
+      shipment_makes (base_shipped ++ makes (deliver 8) (arrive 8 1 1 (an_item basket mug ∷ []))
+      ∷ []) (deliver 9) ≡ nothing_arrives 9
   -- ten sellers at once
   pub ten_of_eleven_sellers : shipment_makes eleven_sellers (deliver 8) ≡ arrive 8 10 10 ten_items
   pub then_the_eleventh : shipment_makes ten_delivered (deliver 9) ≡ arrive 9 1 1 last_item
   pub then_none : shipment_makes all_delivered (deliver 10) ≡ nothing_arrives 10
   -- of a seller only the packages of the checkout of its oldest one
   pub older_checkout_of_a_seller : shipment_makes two_checkouts (deliver 8) ≡ arrive 8 1 2 older_items
-  pub then_the_later_checkout : shipment_makes older_delivered (deliver 9) ≡ arrive 9 1 1 (an_item (an_id 7 2) mug ∷ [])
+  pub then_the_later_checkout : shipment_makes older_delivered (deliver 9)
+      ≡ arrive 9 1 1 (an_item (an_id 7 2) mug ∷ [])
   pub each_seller_has_its_own_oldest : shipment_makes two_sellers (deliver 8) ≡ arrive 8 2 2 both_items
   pub then_what_is_left :
-      shipment_makes (two_sellers ++ makes (deliver 8) (arrive 8 2 2 both_items) ∷ []) (deliver 9) ≡ arrive 9 1 1 (an_item (an_id 7 2) cup ∷ [])
+      shipment_makes (two_sellers ++ makes (deliver 8) (arrive 8 2 2 both_items) ∷ []) (deliver 9)
+      ≡ arrive 9 1 1 (an_item (an_id 7 2) cup ∷ [])

@@ -1,45 +1,63 @@
 -- Links: their places among all links, and who sends and receives on each.
 use Rattle.std.specs.Prelude.{ℕ, ◌+◌, ◌*◌, ◌<◌, Bool, false, ◌==◌, ◌&&◌, List, [], ◌∷◌, slice_index_or}
+use Rattle.market_amounts.specs.declared.keys.RequestId.{RequestId}
+use Rattle.market_events.specs.declared.lanes.TheConstants.{LANES}
 use Rattle.market_events.specs.declared.links.TheConstants.{SERVICE_LINKS}
 use Rattle.market_events.specs.declared.links.Link.{Link}
 use Rattle.market_events.specs.declared.links.Link.TheVariants.{Service, Asked, Told}
 use Rattle.market_events.specs.declared.requests.Ask.{Ask}
 use Rattle.market_events.specs.declared.requests.Ask.TheVariants as ask
+use Rattle.market_events.specs.declared.requests.Request.{Request}
+use Rattle.market_events.specs.declared.roles.TheConstants.{SERVICES}
+use Rattle.market_events.specs.Requests.{lane_of}
+-- the services
+pub use Rattle.market_events.specs.declared.roles.Role.{Role}
 
--- the numbers of the services
+-- the node of each service
+abbrev pub node_of : Role → ℕ
+node_of Role.Cart = 0
+node_of Role.Product = 1
+node_of Role.Stock = 2
+node_of Role.Order = 3
+node_of Role.Payment = 4
+node_of Role.Shipment = 5
+node_of Role.Customer = 6
+node_of Role.Seller = 7
+
 abbrev pub cart_node : ℕ
-cart_node = 0
+cart_node = node_of Role.Cart
 
 abbrev pub product_node : ℕ
-product_node = 1
+product_node = node_of Role.Product
 
 abbrev pub stock_node : ℕ
-stock_node = 2
+stock_node = node_of Role.Stock
 
 abbrev pub order_node : ℕ
-order_node = 3
+order_node = node_of Role.Order
 
 abbrev pub payment_node : ℕ
-payment_node = 4
+payment_node = node_of Role.Payment
 
 abbrev pub shipment_node : ℕ
-shipment_node = 5
+shipment_node = node_of Role.Shipment
 
 abbrev pub customer_node : ℕ
-customer_node = 6
+customer_node = node_of Role.Customer
 
 abbrev pub seller_node : ℕ
-seller_node = 7
+seller_node = node_of Role.Seller
 
 -- the node of a lane
 abbrev pub lane_node : ℕ → ℕ
-lane_node lane = 8 + lane
+lane_node lane = SERVICES + lane
 
 -- the sender and the receiver of each service link, from link 0 on
 abbrev pub service_ends : List (ℕ × ℕ)
 service_ends =
     (product_node, cart_node) ∷ (product_node, stock_node) ∷ (cart_node, stock_node) ∷ (stock_node, cart_node)
-    ∷ (stock_node, order_node) ∷ (order_node, payment_node) ∷ (order_node, seller_node) ∷ (order_node, cart_node)
+    ∷ (stock_node, order_node) ∷ (order_node, payment_node) ∷ (order_node, seller_node)
+    ∷ (order_node, cart_node)
     ∷ (payment_node, stock_node) ∷ (payment_node, order_node) ∷ (payment_node, shipment_node)
     ∷ (payment_node, customer_node) ∷ (payment_node, seller_node)
     ∷ (shipment_node, order_node) ∷ (shipment_node, seller_node) ∷ (shipment_node, customer_node) ∷ []
@@ -47,14 +65,14 @@ service_ends =
 -- the numbers are in their ranges
 abbrev pub IsLink : Link → Type 0
 IsLink (Service number) = number < SERVICE_LINKS
-IsLink (Asked lane service) = (lane < 16) × (service < 8)
-IsLink (Told service lane) = (service < 8) × (lane < 16)
+IsLink (Asked lane service) = (lane < LANES) × (service < SERVICES)
+IsLink (Told service lane) = (service < SERVICES) × (lane < LANES)
 
--- service links have their number, then come those from each lane to each service, from 16 on, and those back, from 144 on
+-- service links have their number, then come those from each lane to each service, and those back
 abbrev pub index_of : Link → ℕ
 index_of (Service number) = number
-index_of (Asked lane service) = 16 + 8 * lane + service
-index_of (Told service lane) = 144 + 8 * lane + service
+index_of (Asked lane service) = 16 + SERVICES * lane + service
+index_of (Told service lane) = 16 + LANES * SERVICES + SERVICES * lane + service
 
 abbrev pub sender_of : Link → ℕ
 sender_of (Service number) = (slice_index_or service_ends number (0, 0)).0
@@ -88,3 +106,10 @@ service_by_ask (ask.Card customer limit) = payment_node
 service_by_ask ask.Deliver = shipment_node
 service_by_ask (ask.Customer customer) = customer_node
 service_by_ask (ask.Dashboard seller) = seller_node
+
+-- the link on which the lane of a request asks its service, and that on which a service tells the lane
+abbrev pub asking : Request → Link
+asking request = Asked (lane_of request.id) (service_by_ask request.ask)
+
+abbrev pub telling : ℕ → RequestId → Link
+telling service id = Told service (lane_of id)

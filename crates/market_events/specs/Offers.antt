@@ -1,5 +1,6 @@
 -- What becomes of an event that is offered to its receiver, by the events that this node took before.
-use Rattle.std.specs.Prelude.{ℕ, ◌+◌, Bool, not, ◌==◌, ◌||◌, nat_lt, nat_le, List, map, count_by, slice_index, if◌then◌else◌}
+use Rattle.std.specs.Prelude.{ℕ, ◌+◌, Bool, not, ◌==◌, ◌||◌, nat_lt, nat_le, List, map, count_by, slice_index}
+use Rattle.std.specs.Prelude.{if◌then◌else◌}
 use Rattle.std.specs.List.{range_with_len, list_all}
 use Rattle.market_events.specs.declared.links.TheConstants.{SERVICE_LINKS}
 use Rattle.market_events.specs.declared.links.Link.{Link}
@@ -19,7 +20,8 @@ counts_of taken = map (λ k. taken_on taken (Service k)) (range_with_len 0 SERVI
 
 -- a service link into the node is not needed further than it was taken
 abbrev pub is_met : ℕ → List ℕ → List ℕ → ℕ → Bool
-is_met node counts past k = not (receiver_of (Service k) == node) || nat_le (slice_index past k) (slice_index counts k)
+is_met node counts past k =
+    not (receiver_of (Service k) == node) || nat_le (slice_index past k) (slice_index counts k)
 
 -- no service link into the node is needed further than it was taken
 unfoldable pub is_ready : ℕ → List ℕ → List ℕ → Bool

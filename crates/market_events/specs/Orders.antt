@@ -1,6 +1,7 @@
 -- Orders: what they answer, by the confirmed checkouts, payments, shipments and deliveries that were taken.
-use Rattle.std.specs.Prelude.{ℕ, ◌+◌, Bool, true, false, ◌==◌, ◌&&◌, not, List, [], ◌∷◌, ◌++◌, Option, Some, None, length, filter, filter_map, find, if◌then◌else◌}
-use Rattle.std.specs.List.{list_any, list_all, sum_by, flat_map}
+use Rattle.std.specs.Prelude.{ℕ, Bool, true, false, ◌==◌, ◌&&◌, not, List, [], ◌∷◌, Option, Some}
+use Rattle.std.specs.Prelude.{None, filter, filter_map, if◌then◌else◌}
+use Rattle.std.specs.List.{list_any, sum_by, flat_map}
 use Rattle.market_amounts.specs.declared.keys.ProductKey.{ProductKey}
 use Rattle.market_amounts.specs.declared.keys.RequestId.{RequestId}
 use Rattle.market_events.specs.declared.bodies.Body.{Body}
@@ -8,14 +9,13 @@ use Rattle.market_events.specs.declared.bodies.Body.TheVariants as body
 use Rattle.market_events.specs.declared.bodies.Ending.TheVariants as ending
 use Rattle.market_events.specs.declared.bodies.Item.{Item}
 use Rattle.market_events.specs.declared.bodies.PricedLine.{PricedLine}
-use Rattle.market_events.specs.declared.links.Link.TheVariants.{Service}
+use Rattle.market_events.specs.declared.links.TheConstants.{ORDER_TO_PAYMENT, ORDER_TO_SELLER, ORDER_TO_CART}
 use Rattle.market_events.specs.declared.replies.OrderStatus.{OrderStatus}
 use Rattle.market_events.specs.declared.replies.OrderStatus.TheVariants as status
 use Rattle.market_events.specs.declared.replies.Reply.TheVariants as reply
 use Rattle.market_events.specs.declared.replies.Rule.TheVariants as rule
 use Rattle.market_events.specs.declared.requests.Ask.{Ask}
 use Rattle.market_events.specs.declared.requests.Ask.TheVariants as ask
-use Rattle.market_events.specs.declared.requests.Request.{Request}
 use Rattle.market_events.specs.Links.{order_node}
 use Rattle.market_events.specs.Requests.{same_key, same_id}
 use Rattle.market_events.specs.Steps.{Step, Sending, taken_bodies, told, refused}
@@ -31,7 +31,8 @@ is_of id r = same_id r.checkout id
 
 -- what the lines of the checkout cost
 abbrev pub order_total : List Step → RequestId → ℕ
-order_total steps id = sum_by (λ (r : Reservation). if is_of id r then total_of r.lines else 0) (checkouts_taken steps)
+order_total steps id =
+    sum_by (λ (r : Reservation). if is_of id r then total_of r.lines else 0) (checkouts_taken steps)
 
 -- the items that were delivered
 abbrev pub items_in : Body → List Item
@@ -105,7 +106,10 @@ order_asked s id other = []
 abbrev pub order_rows : OrderSums → Body → List Sending
 order_rows s (body.Asked request) = order_asked s request.id request.ask
 order_rows s (body.StockConfirmed checkout customer lines) =
-    (Service 6, body.Invoice checkout customer lines (total_of lines)) ∷ (Service 5, body.Invoice checkout customer lines (total_of lines)) ∷ []
-order_rows s (body.Failed checkout customer rule) = (Service 7, body.Ended checkout (ending.Undone rule)) ∷ []
-order_rows s (body.Shipped checkout) = (Service 7, body.Ended checkout (ending.Whole (s.total checkout))) ∷ []
+    (ORDER_TO_SELLER, body.Invoice checkout customer lines (total_of lines))
+    ∷ (ORDER_TO_PAYMENT, body.Invoice checkout customer lines (total_of lines)) ∷ []
+order_rows s (body.Failed checkout customer rule) =
+    (ORDER_TO_CART, body.Ended checkout (ending.Undone rule)) ∷ []
+order_rows s (body.Shipped checkout) =
+    (ORDER_TO_CART, body.Ended checkout (ending.Whole (s.total checkout))) ∷ []
 order_rows s other = []

@@ -1,5 +1,5 @@
 -- The product service: what it answers, by the changes that it made.
-use Rattle.std.specs.Prelude.{ℕ, ◌+◌, List, [], ◌∷◌, ◌++◌, Option, Some, None, filter_map}
+use Rattle.std.specs.Prelude.{ℕ, ◌+◌, List, [], ◌∷◌, Option, Some, None, filter_map}
 use Rattle.market_amounts.specs.declared.keys.ProductKey.{ProductKey}
 use Rattle.market_amounts.specs.declared.keys.RequestId.{RequestId}
 use Rattle.market_events.specs.declared.bodies.Body.{Body}
@@ -8,13 +8,12 @@ use Rattle.market_events.specs.declared.changes.Change.{Change}
 use Rattle.market_events.specs.declared.changes.Change.TheVariants as change
 use Rattle.market_events.specs.declared.changes.Look.{Look}
 use Rattle.market_events.specs.declared.changes.Look.TheVariants.{Unknown, Gone, Live}
-use Rattle.market_events.specs.declared.links.Link.TheVariants.{Service}
+use Rattle.market_events.specs.declared.links.TheConstants.{PRODUCT_TO_CART, PRODUCT_TO_STOCK}
 use Rattle.market_events.specs.declared.replies.Reply.{Reply}
 use Rattle.market_events.specs.declared.replies.Reply.TheVariants as reply
 use Rattle.market_events.specs.declared.replies.Rule.TheVariants as rule
 use Rattle.market_events.specs.declared.requests.Ask.{Ask}
 use Rattle.market_events.specs.declared.requests.Ask.TheVariants as ask
-use Rattle.market_events.specs.declared.requests.Request.{Request}
 use Rattle.market_events.specs.Copies.{ProductChange, copy_of, version_of}
 use Rattle.market_events.specs.Links.{product_node}
 use Rattle.market_events.specs.Steps.{Step, Sending, made_on, told, refused}
@@ -26,7 +25,7 @@ change_in other = None
 
 -- the changes that were made on link 1
 abbrev pub changes_made : List Step → List ProductChange
-changes_made steps = filter_map change_in (made_on 1 steps)
+changes_made steps = filter_map change_in (made_on PRODUCT_TO_STOCK steps)
 
 -- what it shows of a product, and how many changes that had
 pub record ProductSums : Type 0 where
@@ -39,7 +38,8 @@ product_sums steps = record { look = copy_of (changes_made steps); version = ver
 -- the change to stock and to the cart, and the reply to the lane
 abbrev pub changed : RequestId → ProductKey → ℕ → Change → Reply → List Sending
 changed id key version change reply =
-    (Service 1, body.Changed key version change) ∷ (Service 0, body.Changed key version change) ∷ told product_node id reply ∷ []
+    (PRODUCT_TO_STOCK, body.Changed key version change) ∷ (PRODUCT_TO_CART, body.Changed key version change)
+    ∷ told product_node id reply ∷ []
 
 -- create: refused where the product is live
 abbrev pub create_rows : RequestId → ProductKey → Change → Look → ℕ → List Sending
@@ -50,16 +50,20 @@ create_rows id key change other version = changed id key (version + 1) change (r
 abbrev pub price_rows : RequestId → ProductKey → Change → Look → ℕ → List Sending
 price_rows id key change Unknown version = refused product_node id rule.Unknown
 price_rows id key change (Gone v) version = refused product_node id rule.Gone
-price_rows id key change (Live v price freight) version = changed id key (version + 1) change (reply.Priced (version + 1))
+price_rows id key change (Live v price freight) version =
+    changed id key (version + 1) change (reply.Priced (version + 1))
 
 abbrev pub delete_rows : RequestId → ProductKey → Look → ℕ → List Sending
 delete_rows id key Unknown version = refused product_node id rule.Unknown
 delete_rows id key (Gone v) version = refused product_node id rule.Gone
-delete_rows id key (Live v price freight) version = changed id key (version + 1) change.Deleted (reply.Deleted (version + 1))
+delete_rows id key (Live v price freight) version =
+    changed id key (version + 1) change.Deleted (reply.Deleted (version + 1))
 
 abbrev pub product_asked : ProductSums → RequestId → Ask → List Sending
-product_asked s id (ask.Create key price freight) = create_rows id key (change.Created price freight) (s.look key) (s.version key)
-product_asked s id (ask.Price key price) = price_rows id key (change.Priced price) (s.look key) (s.version key)
+product_asked s id (ask.Create key price freight) =
+    create_rows id key (change.Created price freight) (s.look key) (s.version key)
+product_asked s id (ask.Price key price) =
+    price_rows id key (change.Priced price) (s.look key) (s.version key)
 product_asked s id (ask.Delete key) = delete_rows id key (s.look key) (s.version key)
 product_asked s id other = []
 

@@ -2,16 +2,15 @@
 use Rattle.std.specs.Prelude.{ℕ, ◌%◌, Bool, true, false, ◌==◌, ◌&&◌}
 use Rattle.market_amounts.specs.declared.keys.RequestId.{RequestId}
 use Rattle.market_amounts.specs.declared.keys.ProductKey.{ProductKey}
+use Rattle.market_events.specs.declared.lanes.TheConstants.{LANES}
 use Rattle.market_events.specs.declared.requests.Ask.{Ask}
-use Rattle.market_events.specs.declared.requests.Ask.TheVariants.{Create, Price, Delete, View, Line, Remove, Checkout, Stock, Level, Order, Card, Deliver, Customer, Dashboard}
-
--- how many lanes take requests in
-abbrev pub lanes : ℕ
-lanes = 16
+use Rattle.market_events.specs.declared.requests.Ask.TheVariants.{Create, Price, Delete, View, Line, Remove}
+use Rattle.market_events.specs.declared.requests.Ask.TheVariants.{Checkout, Stock, Level, Order, Card}
+use Rattle.market_events.specs.declared.requests.Ask.TheVariants.{Deliver, Customer, Dashboard}
 
 -- the lane of a request
 abbrev pub lane_of : RequestId → ℕ
-lane_of id = id.caller % lanes
+lane_of id = id.caller % LANES
 
 abbrev pub same_id : RequestId → RequestId → Bool
 same_id a b = (a.caller == b.caller) && (a.number == b.number)

@@ -1,9 +1,11 @@
 -- Sellers: the changes of each seller's entries, and what a dashboard shows of them.
-use Rattle.std.specs.Prelude.{ℕ, ◌+◌, ◌*◌, Bool, true, false, ◌==◌, ◌&&◌, List, [], ◌∷◌, ◌++◌, Option, Some, None, length, map, filter, filter_map, find, take, drop, if◌then◌else◌}
+use Rattle.std.specs.Prelude.{ℕ, ◌*◌, Bool, true, false, ◌==◌, ◌&&◌, List, [], ◌∷◌, ◌++◌, Option, Some}
+use Rattle.std.specs.Prelude.{None, length, map, filter, filter_map, take, drop, if◌then◌else◌}
 use Rattle.std.specs.List.{sum_by, flat_map}
 use Rattle.market_amounts.specs.Amounts.{amount_of}
 use Rattle.market_amounts.specs.declared.keys.ProductKey.{ProductKey}
 use Rattle.market_amounts.specs.declared.keys.RequestId.{RequestId}
+use Rattle.market_events.specs.WellFormed.{most_rows_shown}
 use Rattle.market_events.specs.declared.bodies.Body.{Body}
 use Rattle.market_events.specs.declared.bodies.Body.TheVariants as body
 use Rattle.market_events.specs.declared.bodies.Item.{Item}
@@ -14,12 +16,10 @@ use Rattle.market_events.specs.declared.replies.OrderStatus.TheVariants as statu
 use Rattle.market_events.specs.declared.replies.Reply.TheVariants as reply
 use Rattle.market_events.specs.declared.requests.Ask.{Ask}
 use Rattle.market_events.specs.declared.requests.Ask.TheVariants as ask
-use Rattle.market_events.specs.declared.requests.Request.{Request}
 use Rattle.market_events.specs.Copies.{last_some}
 use Rattle.market_events.specs.Links.{seller_node}
 use Rattle.market_events.specs.Requests.{same_key, same_id}
 use Rattle.market_events.specs.Steps.{Step, Sending, taken_bodies, told}
-use Rattle.market_events.specs.WellFormed.{most_rows}
 
 -- a change of an entry of a seller: a line of a checkout, and the status that it gets
 pub record SellerChange : Type 0 where
@@ -43,27 +43,35 @@ marked seller id status lines =
 
 -- the lines of the checkout's invoice with these keys, in the order of the keys
 abbrev pub lines_with_keys : List PricedLine → List ProductKey → List PricedLine
-lines_with_keys lines keys = flat_map (λ key. filter (λ (line : PricedLine). same_key line.key key) lines) keys
+lines_with_keys lines keys =
+    flat_map (λ key. filter (λ (line : PricedLine). same_key line.key key) lines) keys
 
 -- the item's line in the invoice of its checkout, where it is of the seller
 abbrev pub item_delivered : List Body → ℕ → Item → List SellerChange
 item_delivered before seller item =
-    marked seller item.checkout status.Delivered (lines_with_keys (invoice_lines before item.checkout) (item.key ∷ []))
+    marked seller item.checkout status.Delivered
+    (lines_with_keys (invoice_lines before item.checkout) (item.key ∷ []))
 
 -- the changes of a seller that an event brings after these
 abbrev pub changes_by : ℕ → List Body → Body → List SellerChange
-changes_by seller before (body.Invoice checkout customer lines total) = marked seller checkout status.Invoiced lines
+changes_by seller before (body.Invoice checkout customer lines total) =
+    marked seller checkout status.Invoiced lines
 changes_by seller before (body.Confirmed checkout customer lines total) =
-    marked seller checkout status.Paid (lines_with_keys (invoice_lines before checkout) (map (λ (line : PricedLine). line.key) lines))
-changes_by seller before (body.Failed checkout customer rule) = marked seller checkout status.Cancelled (invoice_lines before checkout)
-changes_by seller before (body.Shipped checkout) = marked seller checkout status.Shipped (invoice_lines before checkout)
+    marked seller checkout status.Paid
+    (lines_with_keys (invoice_lines before checkout) (map (λ (line : PricedLine). line.key) lines))
+changes_by seller before (body.Failed checkout customer rule) =
+    marked seller checkout status.Cancelled (invoice_lines before checkout)
+changes_by seller before (body.Shipped checkout) =
+    marked seller checkout status.Shipped (invoice_lines before checkout)
 changes_by seller before (body.Delivered items) = flat_map (item_delivered before seller) items
 changes_by seller before other = []
 
--- the changes of a seller, in the order of the events, and within one event in the order of its lines or items
+-- the changes of a seller, in the order of the events, and within one event in the order of its lines or
+-- items
 abbrev pub changes_after : ℕ → List Body → List Body → List SellerChange
 changes_after seller before [] = []
-changes_after seller before (b ∷ bs) = changes_by seller before b ++ changes_after seller (before ++ b ∷ []) bs
+changes_after seller before (b ∷ bs) =
+    changes_by seller before b ++ changes_after seller (before ++ b ∷ []) bs
 
 abbrev pub seller_changes : List Step → ℕ → List SellerChange
 seller_changes steps seller = changes_after seller [] (taken_bodies steps)
@@ -85,7 +93,8 @@ same_entry a b = same_id a.checkout b.checkout && same_key a.line.key b.line.key
 
 -- the entry's last status
 abbrev pub status_at : List SellerChange → SellerChange → Option OrderStatus
-status_at changes entry = last_some (λ (c : SellerChange). if same_entry c entry then Some c.status else None) changes
+status_at changes entry =
+    last_some (λ (c : SellerChange). if same_entry c entry then Some c.status else None) changes
 
 abbrev pub line_cost : PricedLine → ℕ
 line_cost line = amount_of line.price line.quantity line.freight line.voucher
@@ -116,7 +125,7 @@ amount_at changes = sum_by (λ (row : EntryRow). row.amount) (in_progress_at cha
 
 -- page n of them, counted from 0
 abbrev pub page_of : ℕ → List EntryRow → List EntryRow
-page_of n rows = take most_rows (drop (most_rows * n) rows)
+page_of n rows = take most_rows_shown (drop (most_rows_shown * n) rows)
 
 pub record SellerSums : Type 0 where
   pub changes : ℕ → List SellerChange
@@ -127,7 +136,9 @@ seller_sums steps = record { changes = seller_changes steps }
 -- the present point, which is how many changes there were, and the entries that are in progress there
 abbrev pub dashboard_rows : RequestId → List SellerChange → List Sending
 dashboard_rows id changes =
-    told seller_node id (reply.Dashboard (length changes) (length (in_progress_at changes)) (amount_at changes) (page_of 0 (in_progress_at changes))) ∷ []
+    told seller_node id
+    (reply.Dashboard (length changes) (length (in_progress_at changes)) (amount_at changes)
+    (page_of 0 (in_progress_at changes))) ∷ []
 
 abbrev pub seller_asked : SellerSums → RequestId → Ask → List Sending
 seller_asked s id (ask.Dashboard seller) = dashboard_rows id (s.changes seller)

@@ -1,5 +1,6 @@
 -- What the eight services answer, which inputs fit, and runs of a service.
-use Rattle.std.specs.Prelude.{◌≡◌, ℕ, ◌+◌, Bool, true, false, ◌==◌, ◌&&◌, ◌||◌, not, nat_lt, List, [], ◌∷◌, ◌++◌, length, if◌then◌else◌}
+use Rattle.std.specs.Prelude.{◌≡◌, ℕ, ◌+◌, Bool, true, false, ◌==◌, ◌&&◌, not, nat_lt, List, [], ◌∷◌}
+use Rattle.std.specs.Prelude.{◌++◌, length, if◌then◌else◌}
 use Rattle.std.specs.List.{list_any, list_all}
 use Rattle.market_amounts.specs.declared.keys.RequestId.{RequestId}
 use Rattle.market_events.specs.declared.bodies.Body.{Body}
@@ -11,43 +12,26 @@ use Rattle.market_events.specs.declared.changes.Change.TheVariants as change
 use Rattle.market_events.specs.declared.changes.Look.{Look}
 use Rattle.market_events.specs.declared.changes.Look.TheVariants.{Unknown, Gone, Live}
 use Rattle.market_events.specs.declared.links.Link.{Link}
-use Rattle.market_events.specs.declared.requests.Request.{Request}
+use Rattle.market_events.specs.declared.links.TheConstants.{CART_TO_STOCK}
 use Rattle.market_events.specs.Carried.{carries}
 use Rattle.market_events.specs.Carts.{changes_taken, cart_sums, cart_rows}
-use Rattle.market_events.specs.Copies.{ProductChange, copy_of}
+use Rattle.market_events.specs.Copies.{copy_of}
 use Rattle.market_events.specs.Customers.{customer_sums, customer_rows}
 use Rattle.market_events.specs.Formed.{body_formed}
-use Rattle.market_events.specs.Links.{cart_node, product_node, stock_node, order_node, payment_node, shipment_node, customer_node, seller_node, receiver_of}
+pub use Rattle.market_events.specs.declared.roles.Role.{Role}
+pub use Rattle.market_events.specs.Links.{node_of}
+use Rattle.market_events.specs.Links.{receiver_of}
 use Rattle.market_events.specs.Looks.{is_live, look_version}
-use Rattle.market_events.specs.Orders.{checkouts_taken, is_of, is_taken, ships, items_taken, same_item, order_sums, order_rows}
+use Rattle.market_events.specs.Orders.{checkouts_taken, is_of, is_taken, ships, items_taken, same_item}
+use Rattle.market_events.specs.Orders.{order_sums, order_rows}
 use Rattle.market_events.specs.Payments.{payment_sums, payment_rows}
 use Rattle.market_events.specs.Products.{product_sums, product_rows}
 use Rattle.market_events.specs.Requests.{same_id, same_key}
 use Rattle.market_events.specs.Sellers.{invoice_lines, seller_sums, seller_rows}
 use Rattle.market_events.specs.Shipments.{shipment_sums, shipment_rows}
 use Rattle.market_events.specs.Steps.{Step, Sending, taken_bodies, made_on, same_lines}
-use Rattle.market_events.specs.Stocks.{Reservation, reservations, confirms, is_settled, stock_sums, stock_taken_rows}
-
--- the services
-pub data Role : Type 0 where
-  Cart : Role
-  Product : Role
-  Stock : Role
-  Order : Role
-  Payment : Role
-  Shipment : Role
-  Customer : Role
-  Seller : Role
-
-abbrev pub node_of : Role → ℕ
-node_of Role.Cart = cart_node
-node_of Role.Product = product_node
-node_of Role.Stock = stock_node
-node_of Role.Order = order_node
-node_of Role.Payment = payment_node
-node_of Role.Shipment = shipment_node
-node_of Role.Customer = customer_node
-node_of Role.Seller = seller_node
+use Rattle.market_events.specs.Stocks.{Reservation, reservations, confirms, is_settled, stock_sums}
+use Rattle.market_events.specs.Stocks.{stock_taken_rows}
 
 -- what the service makes for an input that fits, after these steps
 unfoldable pub answers : Role → List Step → Link → Body → List Sending
@@ -108,7 +92,8 @@ invoices_for id customer (body.Invoice checkout c lines total) = same_id checkou
 invoices_for id customer other = false
 
 abbrev pub invoices_lines : RequestId → ℕ → List PricedLine → Body → Bool
-invoices_lines id customer lines (body.Invoice checkout c others total) = same_id checkout id && (c == customer) && same_lines others lines
+invoices_lines id customer lines (body.Invoice checkout c others total) =
+    same_id checkout id && (c == customer) && same_lines others lines
 invoices_lines id customer lines other = false
 
 -- a payment, or that there is none, for a checkout that was seen before and is not settled
@@ -130,18 +115,24 @@ is_line_of lines item = list_any (λ (line : PricedLine). same_key line.key item
 
 abbrev pub order_item_fits : List Step → Item → Bool
 order_item_fits steps item =
-    is_taken ships steps item.checkout && list_any (λ (r : Reservation). is_of item.checkout r && is_line_of r.lines item) (checkouts_taken steps)
+    is_taken ships steps item.checkout
+    && list_any (λ (r : Reservation). is_of item.checkout r
+    && is_line_of r.lines item) (checkouts_taken steps)
 
 abbrev pub seller_item_fits : List Step → Item → Bool
-seller_item_fits steps item = is_taken ships steps item.checkout && is_line_of (invoice_lines (taken_bodies steps) item.checkout) item
+seller_item_fits steps item =
+    is_taken ships steps item.checkout && is_line_of (invoice_lines (taken_bodies steps) item.checkout) item
 
 abbrev pub cart_fits : List Step → Body → Bool
 cart_fits steps (body.Asked request) = is_new steps request.id
-cart_fits steps (body.Changed key version change) = change_fits (copy_of (changes_taken steps) key) version change
+cart_fits steps (body.Changed key version change) =
+    change_fits (copy_of (changes_taken steps) key) version change
 cart_fits steps (body.ReserveFailed checkout key rule) =
-    list_any (reserves checkout) (made_on 2 steps) && not (list_any (ends checkout) (taken_bodies steps))
+    list_any (reserves checkout) (made_on CART_TO_STOCK steps)
+    && not (list_any (ends checkout) (taken_bodies steps))
 cart_fits steps (body.Ended checkout ending) =
-    list_any (reserves checkout) (made_on 2 steps) && not (list_any (ends checkout) (taken_bodies steps))
+    list_any (reserves checkout) (made_on CART_TO_STOCK steps)
+    && not (list_any (ends checkout) (taken_bodies steps))
 cart_fits steps other = false
 
 abbrev pub product_fits : List Step → Body → Bool
@@ -150,22 +141,28 @@ product_fits steps other = false
 
 abbrev pub stock_fits : List Step → Body → Bool
 stock_fits steps (body.Asked request) = is_new steps request.id
-stock_fits steps (body.Changed key version change) = change_fits (copy_of (changes_taken steps) key) version change
+stock_fits steps (body.Changed key version change) =
+    change_fits (copy_of (changes_taken steps) key) version change
 stock_fits steps (body.Reserve checkout customer lines) =
-    not (is_taken reserves steps checkout) && list_all (λ (line : PricedLine). is_known (copy_of (changes_taken steps) line.key)) lines
+    not (is_taken reserves steps checkout)
+    && list_all (λ (line : PricedLine). is_known (copy_of (changes_taken steps) line.key)) lines
 stock_fits steps (body.Confirmed checkout customer lines total) =
     settles_fit steps checkout (list_any (is_for_lines checkout customer lines) (reservations steps))
-stock_fits steps (body.Failed checkout customer rule) = settles_fit steps checkout (list_any (is_for checkout customer) (reservations steps))
+stock_fits steps (body.Failed checkout customer rule) =
+    settles_fit steps checkout (list_any (is_for checkout customer) (reservations steps))
 stock_fits steps other = false
 
 abbrev pub order_fits : List Step → Body → Bool
 order_fits steps (body.Asked request) = is_new steps request.id
-order_fits steps (body.StockConfirmed checkout customer lines) = not (list_any (is_of checkout) (checkouts_taken steps))
+order_fits steps (body.StockConfirmed checkout customer lines) =
+    not (list_any (is_of checkout) (checkouts_taken steps))
 order_fits steps (body.Confirmed checkout customer lines total) =
     settles_fit steps checkout (list_any (is_for_lines checkout customer lines) (checkouts_taken steps))
-order_fits steps (body.Failed checkout customer rule) = settles_fit steps checkout (list_any (is_for checkout customer) (checkouts_taken steps))
+order_fits steps (body.Failed checkout customer rule) =
+    settles_fit steps checkout (list_any (is_for checkout customer) (checkouts_taken steps))
 order_fits steps (body.Shipped checkout) = ships_fit steps checkout
-order_fits steps (body.Delivered items) = items_apart (items_taken steps) items && list_all (order_item_fits steps) items
+order_fits steps (body.Delivered items) =
+    items_apart (items_taken steps) items && list_all (order_item_fits steps) items
 order_fits steps other = false
 
 abbrev pub payment_fits : List Step → Body → Bool
@@ -190,9 +187,11 @@ seller_fits steps (body.Asked request) = is_new steps request.id
 seller_fits steps (body.Invoice checkout customer lines total) = not (is_taken invoices steps checkout)
 seller_fits steps (body.Confirmed checkout customer lines total) =
     settles_fit steps checkout (list_any (invoices_lines checkout customer lines) (taken_bodies steps))
-seller_fits steps (body.Failed checkout customer rule) = settles_fit steps checkout (list_any (invoices_for checkout customer) (taken_bodies steps))
+seller_fits steps (body.Failed checkout customer rule) =
+    settles_fit steps checkout (list_any (invoices_for checkout customer) (taken_bodies steps))
 seller_fits steps (body.Shipped checkout) = ships_fit steps checkout
-seller_fits steps (body.Delivered items) = items_apart (items_taken steps) items && list_all (seller_item_fits steps) items
+seller_fits steps (body.Delivered items) =
+    items_apart (items_taken steps) items && list_all (seller_item_fits steps) items
 seller_fits steps other = false
 
 abbrev pub role_fits : Role → List Step → Body → Bool
@@ -209,11 +208,12 @@ role_fits Role.Seller steps b = seller_fits steps b
 abbrev pub most_steps : ℕ
 most_steps = 8_388_608
 
--- the input fits the steps before it: these are few, the body is well formed, its link leads into the service and can
--- carry it, and the kind's own condition holds
+-- the input fits the steps before it: these are few, the body is well formed, its link leads into the service
+-- and can carry it, and the kind's own condition holds
 unfoldable pub fits : Role → List Step → Link → Body → Bool
 fits role steps from b =
-    nat_lt (length steps) most_steps && body_formed b && (receiver_of from == node_of role) && carries from b && role_fits role steps b
+    nat_lt (length steps) most_steps && body_formed b && (receiver_of from == node_of role) && carries from b
+    && role_fits role steps b
 
 -- an input that does not fit is answered by nothing
 unfoldable pub reactions : Role → List Step → Link → Body → List Sending

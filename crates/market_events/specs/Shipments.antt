@@ -1,16 +1,17 @@
 -- Shipments: what they answer, by the packages of paid checkouts and the deliveries that were made.
-use Rattle.std.specs.Prelude.{ℕ, ◌+◌, Bool, true, false, ◌==◌, ◌&&◌, not, List, [], ◌∷◌, ◌++◌, length, map, filter, take, if◌then◌else◌}
+use Rattle.std.specs.Prelude.{ℕ, Bool, ◌==◌, ◌&&◌, not, List, [], ◌∷◌, ◌++◌, length, map}
+use Rattle.std.specs.Prelude.{filter, take, if◌then◌else◌}
 use Rattle.std.specs.List.{list_any, flat_map}
 use Rattle.market_amounts.specs.declared.keys.RequestId.{RequestId}
 use Rattle.market_events.specs.declared.bodies.Body.{Body}
 use Rattle.market_events.specs.declared.bodies.Body.TheVariants as body
 use Rattle.market_events.specs.declared.bodies.Item.{Item}
 use Rattle.market_events.specs.declared.bodies.PricedLine.{PricedLine}
-use Rattle.market_events.specs.declared.links.Link.TheVariants.{Service}
+use Rattle.market_events.specs.declared.links.TheConstants.{SHIPMENT_TO_ORDER, SHIPMENT_TO_SELLER}
+use Rattle.market_events.specs.declared.links.TheConstants.{SHIPMENT_TO_CUSTOMER}
 use Rattle.market_events.specs.declared.replies.Reply.TheVariants as reply
 use Rattle.market_events.specs.declared.requests.Ask.{Ask}
 use Rattle.market_events.specs.declared.requests.Ask.TheVariants as ask
-use Rattle.market_events.specs.declared.requests.Request.{Request}
 use Rattle.market_events.specs.Links.{shipment_node}
 use Rattle.market_events.specs.Orders.{items_in, is_item_of}
 use Rattle.market_events.specs.Requests.{same_id}
@@ -28,7 +29,7 @@ packages steps = flat_map packages_in (taken_bodies steps)
 
 -- the items of the deliveries, which were made on link 15
 abbrev pub items_made : List Step → List Item
-items_made steps = flat_map items_in (made_on 15 steps)
+items_made steps = flat_map items_in (made_on SHIPMENT_TO_CUSTOMER steps)
 
 -- no delivery has the package
 abbrev pub is_open : List Step → Item → Bool
@@ -56,7 +57,8 @@ oldest_of waiting = take most_sellers (firsts_after [] waiting)
 -- the open packages with the seller and the checkout of one of these
 abbrev pub delivered_of : List Item → List Item
 delivered_of waiting =
-    filter (λ (p : Item). list_any (λ (o : Item). (o.key.seller == p.key.seller) && same_id o.checkout p.checkout) (oldest_of waiting)) waiting
+    filter (λ (p : Item). list_any (λ (o : Item). (o.key.seller == p.key.seller)
+    && same_id o.checkout p.checkout) (oldest_of waiting)) waiting
 
 -- the packages that are open, by number
 pub record ShipmentSums : Type 0 where
@@ -68,7 +70,8 @@ shipment_sums steps = record { waiting = open_packages steps }
 abbrev pub deliver_rows : RequestId → List Item → ℕ → List Sending
 deliver_rows id [] sellers = told shipment_node id (reply.Delivered 0 0) ∷ []
 deliver_rows id (i ∷ more) sellers =
-    (Service 15, body.Delivered (i ∷ more)) ∷ (Service 14, body.Delivered (i ∷ more)) ∷ (Service 13, body.Delivered (i ∷ more))
+    (SHIPMENT_TO_CUSTOMER, body.Delivered (i ∷ more)) ∷ (SHIPMENT_TO_SELLER, body.Delivered (i ∷ more))
+    ∷ (SHIPMENT_TO_ORDER, body.Delivered (i ∷ more))
     ∷ told shipment_node id (reply.Delivered sellers (length (i ∷ more))) ∷ []
 
 abbrev pub shipment_asked : ShipmentSums → RequestId → Ask → List Sending
@@ -77,5 +80,6 @@ shipment_asked s id other = []
 
 abbrev pub shipment_rows : ShipmentSums → Body → List Sending
 shipment_rows s (body.Asked request) = shipment_asked s request.id request.ask
-shipment_rows s (body.Confirmed checkout customer lines total) = (Service 14, body.Shipped checkout) ∷ (Service 13, body.Shipped checkout) ∷ []
+shipment_rows s (body.Confirmed checkout customer lines total) =
+    (SHIPMENT_TO_SELLER, body.Shipped checkout) ∷ (SHIPMENT_TO_ORDER, body.Shipped checkout) ∷ []
 shipment_rows s other = []

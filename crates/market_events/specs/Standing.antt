@@ -14,7 +14,8 @@ use Rattle.market_events.specs.Services.{Role, IsRunOf, answers, fits}
 use Rattle.market_events.specs.Steps.{Step}
 
 -- the steps are a run of the service, and what is kept holds them
-pub record Stands {Kept : Type 0} (role : Role) (holds : Kept → List Step → Type 0) (kept : Kept) (steps : List Step) : Type 0 where
+pub record Stands {Kept : Type 0} (role : Role) (holds : Kept → List Step
+    → Type 0) (kept : Kept) (steps : List Step) : Type 0 where
   pub run : IsRunOf role steps
   pub held : holds kept steps
 
@@ -24,7 +25,8 @@ StandsForSome role holds kept = ∥ ((steps : List Step) × Stands role holds ke
 
 -- it stands for some steps that the input fits
 abbrev pub CanTake : {Kept : Type 0} → Role → (Kept → List Step → Type 0) → Kept → Link → Body → Type 0
-CanTake role holds kept from b = ∥ ((steps : List Step) × Stands role holds kept steps × (fits role steps from b ≡ true)) ∥₁
+CanTake role holds kept from b =
+    ∥ ((steps : List Step) × Stands role holds kept steps × (fits role steps from b ≡ true)) ∥₁
 
 -- the step that takes this input, after these steps
 abbrev pub step_of : Role → List Step → Link → Body → Step

@@ -1,5 +1,7 @@
--- Stock: what it answers, by the changes that it took, the pieces that were stocked, and the reservations of checkouts.
-use Rattle.std.specs.Prelude.{ℕ, ◌+◌, ◌-◌, Bool, true, false, ◌==◌, ◌&&◌, ◌||◌, not, nat_lt, List, [], ◌∷◌, ◌++◌, Option, Some, None, filter_map, if◌then◌else◌}
+-- Stock: what it answers, by the changes that it took, the pieces that were stocked, and the reservations of
+-- checkouts.
+use Rattle.std.specs.Prelude.{ℕ, ◌+◌, ◌-◌, Bool, false, not, nat_lt, List, [], ◌∷◌}
+use Rattle.std.specs.Prelude.{Option, Some, None, filter_map, if◌then◌else◌}
 use Rattle.std.specs.List.{list_any, sum_by}
 use Rattle.std.specs.Option.{option_or}
 use Rattle.market_amounts.specs.declared.keys.ProductKey.{ProductKey}
@@ -11,12 +13,11 @@ use Rattle.market_events.specs.declared.bodies.StockRule.{StockRule}
 use Rattle.market_events.specs.declared.bodies.StockRule.TheVariants as stock
 use Rattle.market_events.specs.declared.changes.Look.{Look}
 use Rattle.market_events.specs.declared.changes.Look.TheVariants.{Unknown, Gone, Live}
-use Rattle.market_events.specs.declared.links.Link.TheVariants.{Service}
+use Rattle.market_events.specs.declared.links.TheConstants.{STOCK_TO_CART, STOCK_TO_ORDER}
 use Rattle.market_events.specs.declared.replies.Reply.TheVariants as reply
 use Rattle.market_events.specs.declared.replies.Rule.TheVariants as rule
 use Rattle.market_events.specs.declared.requests.Ask.{Ask}
 use Rattle.market_events.specs.declared.requests.Ask.TheVariants as ask
-use Rattle.market_events.specs.declared.requests.Request.{Request}
 use Rattle.market_events.specs.Carts.{changes_taken, is_accepted}
 use Rattle.market_events.specs.Copies.{copy_of}
 use Rattle.market_events.specs.Links.{stock_node}
@@ -45,12 +46,13 @@ pub record Reservation : Type 0 where
   pub lines : List PricedLine
 
 abbrev pub reservation_in : Body → Option Reservation
-reservation_in (body.StockConfirmed checkout customer lines) = Some (record { checkout = checkout; customer = customer; lines = lines })
+reservation_in (body.StockConfirmed checkout customer lines) =
+    Some (record { checkout = checkout; customer = customer; lines = lines })
 reservation_in other = None
 
 -- the reservations that were made, on link 4
 abbrev pub reservations : List Step → List Reservation
-reservations steps = filter_map reservation_in (made_on 4 steps)
+reservations steps = filter_map reservation_in (made_on STOCK_TO_ORDER steps)
 
 -- the body is the payment of this checkout; or says that there is none
 abbrev pub confirms : RequestId → Body → Bool
@@ -79,11 +81,15 @@ pieces_of key lines = sum_by (λ (line : PricedLine). if same_key line.key key t
 
 -- the pieces of reservations whose payment was taken
 abbrev pub sold : List Step → ProductKey → ℕ
-sold steps key = sum_by (λ (r : Reservation). if is_confirmed steps r.checkout then pieces_of key r.lines else 0) (reservations steps)
+sold steps key =
+    sum_by (λ (r : Reservation). if is_confirmed steps r.checkout then pieces_of key r.lines else 0)
+    (reservations steps)
 
 -- the pieces of reservations that nothing settled
 abbrev pub reserved : List Step → ProductKey → ℕ
-reserved steps key = sum_by (λ (r : Reservation). if is_settled steps r.checkout then 0 else pieces_of key r.lines) (reservations steps)
+reserved steps key =
+    sum_by (λ (r : Reservation). if is_settled steps r.checkout then 0 else pieces_of key r.lines)
+    (reservations steps)
 
 abbrev pub on_hand : List Step → ProductKey → ℕ
 on_hand steps key = stocked steps key - sold steps key
@@ -94,7 +100,8 @@ pub record StockSums : Type 0 where
   pub reserved : ProductKey → ℕ
 
 abbrev pub stock_sums : List Step → StockSums
-stock_sums steps = record { look = copy_of (changes_taken steps); on_hand = on_hand steps; reserved = reserved steps }
+stock_sums steps =
+    record { look = copy_of (changes_taken steps); on_hand = on_hand steps; reserved = reserved steps }
 
 -- stock: refused where the product is unknown or gone, or where more would be on hand than can be
 abbrev pub stock_rows : RequestId → ℕ → Look → ℕ → List Sending
@@ -128,10 +135,12 @@ first_some f (x ∷ xs) = option_or (f x) (first_some f xs)
 
 -- all lines are reserved, or none and the first refused line is named
 abbrev pub reserve_rows : RequestId → ℕ → List PricedLine → Option (ProductKey × StockRule) → List Sending
-reserve_rows id customer lines None = (Service 4, body.StockConfirmed id customer lines) ∷ []
-reserve_rows id customer lines (Some refusal) = (Service 3, body.ReserveFailed id refusal.0 refusal.1) ∷ []
+reserve_rows id customer lines None = (STOCK_TO_ORDER, body.StockConfirmed id customer lines) ∷ []
+reserve_rows id customer lines (Some refusal) =
+    (STOCK_TO_CART, body.ReserveFailed id refusal.0 refusal.1) ∷ []
 
 abbrev pub stock_taken_rows : StockSums → Body → List Sending
 stock_taken_rows s (body.Asked request) = stock_asked s request.id request.ask
-stock_taken_rows s (body.Reserve checkout customer lines) = reserve_rows checkout customer lines (first_some (line_refusal s) lines)
+stock_taken_rows s (body.Reserve checkout customer lines) =
+    reserve_rows checkout customer lines (first_some (line_refusal s) lines)
 stock_taken_rows s other = []

@@ -2,8 +2,6 @@
 use Rattle.std.specs.Prelude.{ℕ, List, [], ◌∷◌, map, codes}
 use Rattle.std.specs.Fmt.{decimal}
 use Rattle.std.specs.List.{join_with_byte}
-use Rattle.market_amounts.specs.declared.keys.ProductKey.{ProductKey}
-use Rattle.market_amounts.specs.declared.keys.RequestId.{RequestId}
 pub use Rattle.market_words.specs.Names.{id_text, key_text}
 use Rattle.market_events.specs.declared.bodies.PricedLine.{PricedLine}
 use Rattle.market_events.specs.declared.bodies.Item.{Item}
@@ -37,7 +35,8 @@ spaced words = join_with_byte 32 words
 -- SELLER:PRODUCT:QUANTITY:PRICE:FREIGHT:VOUCHER
 abbrev pub line_text : PricedLine → List ℕ
 line_text line = join_with_byte 58
-    (decimal line.key.seller ∷ decimal line.key.product ∷ decimal line.quantity ∷ decimal line.price ∷ decimal line.freight ∷ decimal line.voucher ∷ [])
+    (decimal line.key.seller ∷ decimal line.key.product ∷ decimal line.quantity ∷ decimal line.price
+    ∷ decimal line.freight ∷ decimal line.voucher ∷ [])
 
 -- lines, joined by `;`
 abbrev pub lines_text : List PricedLine → List ℕ
@@ -45,7 +44,9 @@ lines_text lines = join_with_byte 59 (map line_text lines)
 
 -- ID:CUSTOMER:SELLER:PRODUCT
 abbrev pub item_text : Item → List ℕ
-item_text item = join_with_byte 58 (id_text item.checkout ∷ decimal item.customer ∷ decimal item.key.seller ∷ decimal item.key.product ∷ [])
+item_text item =
+    join_with_byte 58 (id_text item.checkout ∷ decimal item.customer ∷ decimal item.key.seller
+    ∷ decimal item.key.product ∷ [])
 
 -- items, joined by `;`
 abbrev pub items_text : List Item → List ℕ
@@ -60,19 +61,26 @@ status_text status.Cancelled = codes "cancelled"
 
 -- ID:PRODUCT:QUANTITY:AMOUNT:STATUS
 abbrev pub row_text : EntryRow → List ℕ
-row_text row = join_with_byte 58 (id_text row.checkout ∷ decimal row.product ∷ decimal row.quantity ∷ decimal row.amount ∷ status_text row.status ∷ [])
+row_text row =
+    join_with_byte 58 (id_text row.checkout ∷ decimal row.product ∷ decimal row.quantity ∷ decimal row.amount
+    ∷ status_text row.status ∷ [])
 
 -- the kind of a request and its arguments
 abbrev pub ask_words : Ask → List (List ℕ)
-ask_words (ask.Create key price freight) = codes "create" ∷ decimal key.seller ∷ decimal key.product ∷ decimal price ∷ decimal freight ∷ []
-ask_words (ask.Price key price) = codes "price" ∷ decimal key.seller ∷ decimal key.product ∷ decimal price ∷ []
+ask_words (ask.Create key price freight) =
+    codes "create" ∷ decimal key.seller ∷ decimal key.product ∷ decimal price ∷ decimal freight ∷ []
+ask_words (ask.Price key price) =
+    codes "price" ∷ decimal key.seller ∷ decimal key.product ∷ decimal price ∷ []
 ask_words (ask.Delete key) = codes "delete" ∷ decimal key.seller ∷ decimal key.product ∷ []
 ask_words (ask.View key) = codes "view" ∷ decimal key.seller ∷ decimal key.product ∷ []
 ask_words (ask.Line customer key quantity voucher) =
-    codes "line" ∷ decimal customer ∷ decimal key.seller ∷ decimal key.product ∷ decimal quantity ∷ decimal voucher ∷ []
-ask_words (ask.Remove customer key) = codes "remove" ∷ decimal customer ∷ decimal key.seller ∷ decimal key.product ∷ []
+    codes "line" ∷ decimal customer ∷ decimal key.seller ∷ decimal key.product ∷ decimal quantity
+    ∷ decimal voucher ∷ []
+ask_words (ask.Remove customer key) =
+    codes "remove" ∷ decimal customer ∷ decimal key.seller ∷ decimal key.product ∷ []
 ask_words (ask.Checkout customer) = codes "checkout" ∷ decimal customer ∷ []
-ask_words (ask.Stock key pieces) = codes "stock" ∷ decimal key.seller ∷ decimal key.product ∷ decimal pieces ∷ []
+ask_words (ask.Stock key pieces) =
+    codes "stock" ∷ decimal key.seller ∷ decimal key.product ∷ decimal pieces ∷ []
 ask_words (ask.Level key) = codes "level" ∷ decimal key.seller ∷ decimal key.product ∷ []
 ask_words (ask.Order checkout) = codes "order" ∷ decimal checkout.caller ∷ decimal checkout.number ∷ []
 ask_words (ask.Card customer limit) = codes "card" ∷ decimal customer ∷ decimal limit ∷ []
@@ -108,7 +116,8 @@ abbrev pub reply_words : Reply → List (List ℕ)
 reply_words (reply.Created version) = codes "created" ∷ decimal version ∷ []
 reply_words (reply.Priced version) = codes "priced" ∷ decimal version ∷ []
 reply_words (reply.Deleted version) = codes "deleted" ∷ decimal version ∷ []
-reply_words (reply.View version price freight) = codes "view" ∷ decimal version ∷ decimal price ∷ decimal freight ∷ []
+reply_words (reply.View version price freight) =
+    codes "view" ∷ decimal version ∷ decimal price ∷ decimal freight ∷ []
 reply_words (reply.Line quantity) = codes "line" ∷ decimal quantity ∷ []
 reply_words reply.Removed = codes "removed" ∷ []
 reply_words (reply.Whole total) = codes "whole" ∷ decimal total ∷ []
@@ -143,9 +152,12 @@ ending_words (ending.Whole total) = codes "whole" ∷ decimal total ∷ []
 ending_words (ending.Undone rule) = codes "undone" ∷ pay_rule_text rule ∷ []
 
 abbrev pub body_words : Body → List (List ℕ)
-body_words (body.Changed key version change) = codes "changed" ∷ key_text key ∷ decimal version ∷ change_words change
-body_words (body.Reserve checkout customer lines) = codes "reserve" ∷ id_text checkout ∷ decimal customer ∷ lines_text lines ∷ []
-body_words (body.ReserveFailed checkout key rule) = codes "reserve_failed" ∷ id_text checkout ∷ key_text key ∷ stock_rule_text rule ∷ []
+body_words (body.Changed key version change) =
+    codes "changed" ∷ key_text key ∷ decimal version ∷ change_words change
+body_words (body.Reserve checkout customer lines) =
+    codes "reserve" ∷ id_text checkout ∷ decimal customer ∷ lines_text lines ∷ []
+body_words (body.ReserveFailed checkout key rule) =
+    codes "reserve_failed" ∷ id_text checkout ∷ key_text key ∷ stock_rule_text rule ∷ []
 body_words (body.StockConfirmed checkout customer lines) =
     codes "stock_confirmed" ∷ id_text checkout ∷ decimal customer ∷ lines_text lines ∷ []
 body_words (body.Invoice checkout customer lines total) =
@@ -153,7 +165,8 @@ body_words (body.Invoice checkout customer lines total) =
 body_words (body.Confirmed checkout customer lines total) =
     codes "confirmed" ∷ id_text checkout ∷ decimal customer ∷ lines_text lines ∷ decimal total ∷ []
 body_words (body.Ended checkout ending) = codes "ended" ∷ id_text checkout ∷ ending_words ending
-body_words (body.Failed checkout customer rule) = codes "failed" ∷ id_text checkout ∷ decimal customer ∷ pay_rule_text rule ∷ []
+body_words (body.Failed checkout customer rule) =
+    codes "failed" ∷ id_text checkout ∷ decimal customer ∷ pay_rule_text rule ∷ []
 body_words (body.Shipped checkout) = codes "shipped" ∷ id_text checkout ∷ []
 body_words (body.Delivered items) = codes "delivered" ∷ items_text items ∷ []
 body_words (body.Asked request) = codes "asked" ∷ request_words request

@@ -1,9 +1,8 @@
--- Well-formed values: each number is in its range, lines and rows are as many as they may be, lines stand by rising key,
--- and a total beside lines is the sum of what they cost.
+-- Well-formed values: each number is in its range, lines and rows are as many as they may be, lines stand by
+-- rising key, and a total beside lines is the sum of what they cost.
 use Rattle.std.specs.Prelude.{◌≡◌, ℕ, ◌+◌, ◌≤◌, Bool, true, ◌&&◌, ◌||◌, ◌==◌, nat_lt, List, [], ◌∷◌, length}
 use Rattle.std.specs.List.{AllByRecursion}
 use Rattle.market_amounts.specs.declared.keys.ProductKey.{ProductKey}
-use Rattle.market_amounts.specs.declared.keys.RequestId.{RequestId}
 use Rattle.market_amounts.specs.Amounts.{amount_of}
 pub use Rattle.market_words.specs.Names.{id_max, IsId, IsKey, IsRequestId}
 use Rattle.market_events.specs.declared.bodies.PricedLine.{PricedLine}
@@ -59,8 +58,8 @@ most_lines = 32
 abbrev pub most_items : ℕ
 most_items = 320
 
-abbrev pub most_rows : ℕ
-most_rows = 50
+abbrev pub most_rows_shown : ℕ
+most_rows_shown = 50
 
 abbrev pub AreCents : ℕ → Type 0
 AreCents n = n ≤ cents_max
@@ -125,7 +124,7 @@ pub record IsRow (row : EntryRow) : Type 0 where
   pub status : IsInProgress row.status
 
 pub record AreRows (rows : List EntryRow) : Type 0 where
-  pub most : length rows ≤ most_rows
+  pub most : length rows ≤ most_rows_shown
   pub each : AllByRecursion IsRow rows
 
 abbrev pub IsChange : Change → Type 0
@@ -138,7 +137,8 @@ IsAsk (ask.Create key price freight) = IsKey key × AreCents price × AreCents f
 IsAsk (ask.Price key price) = IsKey key × AreCents price
 IsAsk (ask.Delete key) = IsKey key
 IsAsk (ask.View key) = IsKey key
-IsAsk (ask.Line customer key quantity voucher) = IsId customer × IsKey key × IsQuantity quantity × AreCents voucher
+IsAsk (ask.Line customer key quantity voucher) =
+    IsId customer × IsKey key × IsQuantity quantity × AreCents voucher
 IsAsk (ask.Remove customer key) = IsId customer × IsKey key
 IsAsk (ask.Checkout customer) = IsId customer
 IsAsk (ask.Stock key pieces) = IsKey key × (1 ≤ pieces) × ArePieces pieces
@@ -175,7 +175,8 @@ IsReply (reply.OrderState status total) = total ≤ total_max
 IsReply (reply.Card limit) = limit ≤ limit_max
 IsReply (reply.Delivered sellers packages) = IsId sellers × IsId packages
 IsReply (reply.Customer confirmed failed delivered) = IsId confirmed × IsId failed × IsId delivered
-IsReply (reply.Dashboard point entries amount rows) = IsId point × IsId entries × (amount ≤ amount_max) × AreRows rows
+IsReply (reply.Dashboard point entries amount rows) =
+    IsId point × IsId entries × (amount ≤ amount_max) × AreRows rows
 IsReply (reply.Refused rule) = Unit {0}
 
 abbrev pub IsEnding : Ending → Type 0
@@ -187,8 +188,10 @@ IsBody (body.Changed key version change) = IsKey key × IsId version × IsChange
 IsBody (body.Reserve checkout customer lines) = IsRequestId checkout × IsId customer × AreLines lines
 IsBody (body.ReserveFailed checkout key rule) = IsRequestId checkout × IsKey key
 IsBody (body.StockConfirmed checkout customer lines) = IsRequestId checkout × IsId customer × AreLines lines
-IsBody (body.Invoice checkout customer lines total) = IsRequestId checkout × IsId customer × AreLines lines × (total ≡ total_of lines)
-IsBody (body.Confirmed checkout customer lines total) = IsRequestId checkout × IsId customer × AreLines lines × (total ≡ total_of lines)
+IsBody (body.Invoice checkout customer lines total) =
+    IsRequestId checkout × IsId customer × AreLines lines × (total ≡ total_of lines)
+IsBody (body.Confirmed checkout customer lines total) =
+    IsRequestId checkout × IsId customer × AreLines lines × (total ≡ total_of lines)
 IsBody (body.Ended checkout ending) = IsRequestId checkout × IsEnding ending
 IsBody (body.Failed checkout customer rule) = IsRequestId checkout × IsId customer
 IsBody (body.Shipped checkout) = IsRequestId checkout

@@ -52,7 +52,8 @@ pub enum Ending {
     Undone(PayRule),
 }
 
-/// What an event tells. Checkouts are named by the ids of their requests; lines are 1 to 32 and stand by rising key.
+/// What an event tells. Checkouts are named by the ids of their requests; lines are 1 to 32 and stand by
+/// rising key.
 #[derive(Debug, Drop, PartialEq)]
 pub enum Body {
     /// A change of a product, with the version that it makes.

@@ -9,8 +9,8 @@ use std::alloc::{AllocError, Global};
 use std::collections::BTreeMap;
 use std::marker::Model;
 
-/// Cells that are put one after the other; a later one of the same name takes the place of an earlier one. Contracts
-/// see names and values by rising name.
+/// Cells that are put one after the other; a later one of the same name takes the place of an earlier one.
+/// Contracts see names and values by rising name.
 #[derive(Debug, Drop)]
 pub struct CellList {
     alloc: Global,

@@ -3,7 +3,7 @@
 ghost use Rattle.std.specs.Prelude.{◌≡◌, ℕ, ◌<◌, ◌^◌, true, Some, IfOk, IfSome};
 ghost use Rattle.market_amounts.specs.declared.keys.ProductKey.{ProductKey};
 ghost use Rattle.market_amounts.specs.declared.keys.RequestId.{RequestId};
-ghost use Rattle.market_events.specs.CellNames.{number_name, key_name, id_name, basket_name, basket_of};
+ghost use Rattle.market_events.specs.CellNames.{number_name, key_name, id_name, basket_name, basket_line_of};
 ghost use Rattle.std.specs.Fmt.{decimal};
 ghost use Rattle.market_events.specs.Cells.{basket_key};
 ghost use Rattle.market_events.specs.Texts.{id_text, key_text};
@@ -85,7 +85,8 @@ pub fn number_named(table: &[u8], name: &CellName) -> Option<u32>
 pub fn key_named(table: &[u8], name: &CellName) -> Option<ProductKey>
     ensures is { IfSome result (λ key. name.now ≡ key_name table.now key) }
     ensures formed { IfSome result (λ key. key_formed key ≡ true) }
-    ensures all { (key : ProductKey) → key_formed key ≡ true → name.now ≡ key_name table.now key → result ≡ Some key }
+    ensures all { (key : ProductKey) → key_formed key ≡ true → name.now ≡ key_name table.now key
+        → result ≡ Some key }
 {
     if name.table.as_slice() != table {
         return None;
@@ -97,7 +98,8 @@ pub fn key_named(table: &[u8], name: &CellName) -> Option<ProductKey>
 pub fn id_named(table: &[u8], name: &CellName) -> Option<RequestId>
     ensures is { IfSome result (λ id. name.now ≡ id_name table.now id) }
     ensures formed { IfSome result (λ id. request_id_formed id ≡ true) }
-    ensures all { (id : RequestId) → request_id_formed id ≡ true → name.now ≡ id_name table.now id → result ≡ Some id }
+    ensures all { (id : RequestId) → request_id_formed id ≡ true → name.now ≡ id_name table.now id
+        → result ≡ Some id }
 {
     if name.table.as_slice() != table {
         return None;
@@ -109,7 +111,8 @@ pub fn id_named(table: &[u8], name: &CellName) -> Option<RequestId>
 pub fn basket_named(table: &[u8], name: &CellName) -> Option<(u32, ProductKey)>
     ensures is { IfSome result (λ line. name.now ≡ basket_name table.now line) }
     ensures formed { IfSome result (λ line. key_formed line.1 ≡ true) }
-    ensures all { (line : ℕ × ProductKey) → line.0 < 2 ^ 32 → key_formed line.1 ≡ true → name.now ≡ basket_name table.now line → result ≡ Some line }
+    ensures all { (line : ℕ × ProductKey) → line.0 < 2 ^ 32 → key_formed line.1 ≡ true
+        → name.now ≡ basket_name table.now line → result ≡ Some line }
 {
     if name.table.as_slice() != table {
         return None;
@@ -147,14 +150,15 @@ fn id_read(text: &[u8]) -> Option<RequestId>
 fn basket_read(text: &[u8]) -> Option<(u32, ProductKey)>
     ensures is { IfSome result (λ line. text.now ≡ basket_key line.0 line.1) }
     ensures formed { IfSome result (λ line. key_formed line.1 ≡ true) }
-    ensures all { (line : ℕ × ProductKey) → line.0 < 2 ^ 32 → key_formed line.1 ≡ true → text.now ≡ basket_key line.0 line.1 → result ≡ Some line }
+    ensures all { (line : ℕ × ProductKey) → line.0 < 2 ^ 32 → key_formed line.1 ≡ true
+        → text.now ≡ basket_key line.0 line.1 → result ≡ Some line }
 {
     basket(text).ok()
 }
 
 // CUSTOMER:SELLER:PRODUCT
 fn basket(text: &[u8]) -> Result<(u32, ProductKey), WordFault>
-    ensures { result ≡ basket_of text.now }
+    ensures { result ≡ basket_line_of text.now }
 {
     let mut pieces = Pieces::new(text, b':');
     let customer = pieces.take()?;

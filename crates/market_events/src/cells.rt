@@ -2,7 +2,8 @@
 
 use market_amounts::List;
 
-/// The name of a cell: its table, and its key there. Names are ordered by the bytes of the table, then of the key.
+/// The name of a cell: its table, and its key there. Names are ordered by the bytes of the table, then of the
+/// key.
 #[derive(PartialEq, Eq, PartialOrd, Ord, Debug, Drop)]
 pub struct CellName {
     pub table: List<u8>,

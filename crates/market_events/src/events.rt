@@ -10,8 +10,8 @@ use crate::requests::Request;
 use market_amounts::RequestId;
 use std::alloc::AllocError;
 
-/// An event: its link, its number there, from 1, the sender's clock, the events of each service link that it rests on,
-/// and what it tells.
+/// An event: its link, its number there, from 1, the sender's clock, the events of each service link that it
+/// rests on, and what it tells.
 #[derive(Debug, Drop, PartialEq)]
 pub struct Event {
     pub link: Link,

@@ -43,7 +43,8 @@ impl NameList {
 
     /// Puts a name, where it is not there. On want of memory the names are as before.
     pub fn put(&mut self, name: CellName) -> Result<(), AllocError>
-        ensures named { OnOk result ((other : CellName) → is_named self.new other ≡ (same_name other name || is_named self.old other)) }
+        ensures named { OnOk result ((other : CellName)
+            → is_named self.new other ≡ (same_name other name || is_named self.old other)) }
         ensures few { OnOk result (length self.new ≤ length self.old + 1) }
         ensures err { OnErr result (self.new ≡ self.old) }
     {

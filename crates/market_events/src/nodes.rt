@@ -2,10 +2,15 @@
 
 ghost use Rattle.std.specs.Prelude.{◌≡◌, ◌≤◌, ◌<◌, ◌↔◌, IfSome, IsNone};
 
+use crate::lanes::LANES;
+use crate::roles::SERVICES;
 use std::marker::Model;
 
-/// A node, 0 to 23: 0 to 7 are the services cart, product, stock, order, payment, shipment, customer and seller, and
-/// 8 to 23 are the lanes 0 to 15. Contracts see the number.
+/// How many nodes there are.
+pub const NODES: u32 = SERVICES + LANES;
+
+/// A node, 0 to 23: 0 to 7 are the services cart, product, stock, order, payment, shipment, customer and
+/// seller, and 8 to 23 are the lanes 0 to 15. Contracts see the number.
 #[derive(Clone, Copy, Debug, PartialEq, Eq, PartialOrd, Ord)]
 pub struct Node {
     number: u32,
@@ -25,7 +30,7 @@ impl Model for Node {
 
 impl Node {
     /// The greatest node.
-    pub const MAX: u32 = 23;
+    pub const MAX: u32 = NODES - 1;
 
     /// The node with this number; none above 23.
     pub fn try_new(number: u32) -> Option<Node>

@@ -1,10 +1,15 @@
 //! What a step of a service makes.
 
-ghost use Rattle.std.specs.Prelude.{◌≡◌, ◌<◌, ◌≤◌, ◌↔◌, [], ◌∷◌, ◌++◌, length, IsTrue, IfSome, IsNone, IfNone, OnOk, OnErr};
-ghost use Rattle.market_events.specs.Steps.{most_outs};
+ghost use Rattle.std.specs.Prelude.{◌≡◌, ◌<◌, ◌≤◌, ◌↔◌, [], ◌∷◌, ◌++◌, length, IsTrue, IfSome, IsNone};
+ghost use Rattle.std.specs.Prelude.{IfNone, OnOk, OnErr};
+ghost use Rattle.market_events.specs.Links.{node_of};
+ghost use Rattle.market_events.specs.Steps.{most_outs, told};
 
 use crate::bodies::Body;
-use crate::links::Link;
+use crate::links::{Link, telling_link};
+use crate::replies::Reply;
+use crate::roles::Role;
+use market_amounts::RequestId;
 use std::alloc::{AllocError, Global};
 use std::collections::VecDeque;
 use std::marker::Model;
@@ -32,8 +37,9 @@ impl Model for Out {
     ghost invariant = { λ out. out.copy ≡ out.body };
 }
 
-/// The bodies that a step makes, in order, each on its link: at most eight. Contracts see the list of the links
-/// with the bodies. Each body is kept with a copy, so that it can be given to two takers without taking memory.
+/// The bodies that a step makes, in order, each on its link: at most eight. Contracts see the list of the
+/// links with the bodies. Each body is kept with a copy, so that it can be given to two takers without taking
+/// memory.
 #[derive(Debug, Drop)]
 pub struct Outs {
     outs: VecDeque<Out>,
@@ -77,7 +83,8 @@ impl Outs {
         self.outs.is_empty()
     }
 
-    /// Adds a body on its link, which requires that there are fewer than eight. On want of memory nothing is added.
+    /// Adds a body on its link, which requires that there are fewer than eight. On want of memory nothing is
+    /// added.
     pub fn push(&mut self, link: Link, body: Body) -> Result<(), AllocError>
         requires { length self.old < most_outs }
         ensures ok { OnOk result (self.new ≡ self.old ++ (link, body) ∷ []) }
@@ -86,6 +93,16 @@ impl Outs {
         let copy = body.try_copy()?;
         self.outs.push_back(Out { link, body, copy })?;
         Ok(())
+    }
+
+    /// Tells the lane of a request its reply, which requires that there are fewer than eight bodies. On want
+    /// of memory nothing is added.
+    pub fn tell(&mut self, service: Role, id: RequestId, reply: Reply) -> Result<(), AllocError>
+        requires { length self.old < most_outs }
+        ensures ok { OnOk result (self.new ≡ self.old ++ told (node_of service) id reply ∷ []) }
+        ensures err { OnErr result (self.new ≡ self.old) }
+    {
+        self.push(telling_link(service, id), Body::Told(id, reply))
     }
 
     /// Takes the first body with its link and its copy. It takes no memory.

@@ -92,7 +92,8 @@ pub enum Reply {
     Delivered(u32, u32),
     /// Payments confirmed and failed, and packages delivered.
     Customer(u32, u32, u32),
-    /// The seller's point, the number and amount of the entries in progress, and the first of these: at most 50.
+    /// The seller's point, the number and amount of the entries in progress, and the first of these: at most
+    /// 50.
     Dashboard(u32, u32, u128, List<EntryRow>),
     Refused(Rule),
 }

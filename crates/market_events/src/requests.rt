@@ -5,8 +5,8 @@ ghost use Rattle.std.specs.Prelude.{◌≡◌, Ok};
 use market_amounts::{Cents, CheckoutId, ProductKey, Quantity, RequestId};
 use std::alloc::AllocError;
 
-/// What a request asks for. Its fields stand in the order of the workload's arguments, a seller with a product being
-/// one key.
+/// What a request asks for. Its fields stand in the order of the workload's arguments, a seller with a
+/// product being one key.
 #[derive(Clone, Copy, Debug, PartialEq, Eq)]
 pub enum Ask {
     /// A new product, with price and freight.

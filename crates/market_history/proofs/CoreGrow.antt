@@ -1,5 +1,5 @@
 -- How a journal grows by one block at a service and at a lane, and the steps that came to a service.
-use Rattle.std.proofs.Common.{◌≡◌, ℕ, ◌+◌, ◌<◌, ◌≤◌, true, false, nat_lt, if◌then◌else◌, List, [], ◌∷◌, ◌++◌, length, length-append, refl, ap, sym, ◌∙◌, arith}
+use Rattle.std.proofs.Common.{◌≡◌, ℕ, ◌+◌, ◌≤◌, true, false, nat_lt, if◌then◌else◌, List, [], ◌∷◌, ◌++◌, length, length-append, refl, ap, ◌∙◌, arith}
 use Rattle.std.specs.Prelude.{map, fold}
 use Rattle.std.proofs.lemmas.Bool.Decides.{nat_tests}
 use Rattle.market_amounts.specs.declared.keys.RequestId.{RequestId}
@@ -8,17 +8,17 @@ use Rattle.market_events.specs.declared.bodies.Body.TheVariants as body
 use Rattle.market_events.specs.declared.events.Entry.{Entry}
 use Rattle.market_events.specs.declared.events.Event.{Event}
 use Rattle.market_events.specs.declared.events.What.{What}
-use Rattle.market_events.specs.declared.events.What.TheVariants.{Given, Taken, Made, Answered}
+use Rattle.market_events.specs.declared.events.What.TheVariants.{Given, Taken}
 use Rattle.market_events.specs.declared.links.Link.{Link}
 use Rattle.market_events.specs.declared.links.Link.TheVariants.{Asked}
 use Rattle.market_events.specs.declared.replies.Reply.{Reply}
 use Rattle.market_events.specs.declared.requests.Request.{Request}
 use Rattle.market_events.specs.Links.{service_by_ask}
 use Rattle.market_events.specs.Requests.{lane_of}
-use Rattle.market_events.specs.Services.{Role, node_of, fits, reactions}
+use Rattle.market_events.specs.declared.roles.Role.{Role}
+use Rattle.market_events.specs.Services.{node_of, fits, reactions}
 use Rattle.market_events.specs.Standing.{with_step}
-use Rattle.market_events.specs.Steps.{Step}
-use Rattle.market_history.specs.Blocks.{Input, Out, Arrival, inputs_of, services, role_at, with_input, steps_of, made_out, service_outs, told_outs, lane_outs, node_outs, what_of, input_of, with_what, with_out, grow}
+use Rattle.market_history.specs.Blocks.{Input, Out, Arrival, inputs_of, services, role_at, with_input, steps_of, made_out, service_outs, told_outs, lane_outs, node_outs, with_what, with_out, grow}
 use Rattle.market_history.specs.Stamps.{clock_before, stamp_of}
 use Rattle.market_history.proofs.CoreEntries.{inputs_of-push-came, inputs_of-push-left}
 use Rattle.market_history.proofs.StampLaws.{clock_before-push}

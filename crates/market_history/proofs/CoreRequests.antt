@@ -1,20 +1,17 @@
 -- What one entry more adds to the requests that a lane was given and to the replies, and when a lane waits.
-use Rattle.std.proofs.Common.{◌≡◌, Bool, true, false, cond, ◌&&◌, ◌||◌, is_some, is_none, List, [], ◌∷◌, ◌++◌, Option, Some, None, refl, ap, sym, ◌∙◌}
+use Rattle.std.proofs.Common.{◌≡◌, Bool, true, false, cond, ◌||◌, is_some, List, [], ◌∷◌, ◌++◌, Option, Some, None, refl, ap, sym, ◌∙◌}
 use Rattle.std.specs.Prelude.{find}
-use Rattle.std.specs.List.{filter_map, list_any, cons_option}
+use Rattle.std.specs.List.{list_any}
 use Rattle.std.specs.Option.{option_to_list, option_or}
 use Rattle.std.proofs.lemmas.List.{append-nil}
 use Rattle.market_amounts.specs.declared.keys.RequestId.{RequestId}
 use Rattle.market_events.specs.declared.events.Entry.{Entry}
-use Rattle.market_events.specs.declared.events.What.{What}
-use Rattle.market_events.specs.declared.events.What.TheVariants.{Given, Taken, Made, Answered}
-use Rattle.market_events.specs.declared.replies.Reply.{Reply}
+use Rattle.market_events.specs.declared.events.What.TheVariants.{Given}
 use Rattle.market_events.specs.declared.requests.Request.{Request}
 use Rattle.market_events.specs.Requests.{same_id}
-use Rattle.market_events.specs.Stocks.{first_some}
-use Rattle.market_events.proofs.SameLaws.{same_id-self}
-use Rattle.market_events.proofs.StockLaws.{first_some-push}
-use Rattle.market_history.specs.Once.{request_in, requests_given, with_id, reply_in, reply_of, is_waiting}
+use Rattle.market_events.proofs.Values.Same.{same_id-self}
+use Rattle.market_events.proofs.Steps.Pieces.{first_some-push}
+use Rattle.market_history.specs.Once.{request_in, requests_given, with_id, reply_in, reply_of}
 use Rattle.market_history.proofs.SentLaws.{filter_map-push}
 
 -- a request was given

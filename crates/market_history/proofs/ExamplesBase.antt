@@ -1,28 +1,29 @@
 -- A checkout that is whole, by computation.
-use Rattle.std.proofs.Common.{◌≡◌, List, [], ◌∷◌, refl, sym, inl, ◌∙◌}
+use Rattle.std.proofs.Common.{◌≡◌, [], ◌∷◌, refl, sym, inl, ◌∙◌}
 use Rattle.std.specs.Prelude.{map, filter}
 use Rattle.market_amounts.specs.declared.keys.ProductKey.{ProductKey}
 use Rattle.market_events.specs.declared.bodies.Item.{Item}
 use Rattle.market_events.specs.declared.bodies.PricedLine.{PricedLine}
 use Rattle.market_events.specs.Offers.{counts_of, is_ready}
 use Rattle.market_events.specs.Requests.{same_id}
-use Rattle.market_events.specs.Services.{Role, answers, fits, reactions}
+use Rattle.market_events.specs.declared.roles.Role.{Role}
+use Rattle.market_events.specs.Services.{answers, fits, reactions}
 use Rattle.market_events.specs.Shipments.{packages}
 use Rattle.market_history.specs.Blocks.{grow, node_outs, service_steps}
-use Rattle.market_history.specs.Book.{acts_of, tables_of, book}
+use Rattle.market_history.specs.Book.{acts_of, book, tables_at_end}
 use Rattle.market_history.specs.Causality.{past_of}
-use Rattle.market_history.specs.Checkouts.{IsPaidOn, IsWhole, HasEntry, lines_reserved}
+use Rattle.market_history.specs.Checkouts.{IsWhole, lines_reserved}
 use Rattle.market_history.specs.Examples.{id, mug}
 use Rattle.market_history.specs.ExamplesBase.{base, HasBaseActs, HasBaseTables, HasServedTables, BaseExamples}
 use Rattle.market_history.specs.Histories.{journal_at, with_journal}
-use Rattle.market_history.specs.Schedule.{outcome_of, play_step}
+use Rattle.market_history.specs.Schedule.{play_step}
 
 base_acts : HasBaseActs (acts_of base)
 unfolding answers fits reactions counts_of is_ready past_of journal_at with_journal node_outs grow play_step acts_of
 base_acts = record { changes = refl; baskets = refl; stocked = refl; cards = refl; whole = refl; undone = refl; unpaid = refl; items = refl }
 
-base_tables : HasBaseTables (tables_of base)
-unfolding answers fits reactions counts_of is_ready past_of journal_at with_journal node_outs grow play_step tables_of
+base_tables : HasBaseTables (tables_at_end base)
+unfolding answers fits reactions counts_of is_ready past_of journal_at with_journal node_outs grow play_step tables_at_end
 base_tables = record {
   look = refl;
   version = refl;

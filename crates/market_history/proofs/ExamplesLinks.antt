@@ -7,7 +7,7 @@ use Rattle.market_events.specs.declared.bodies.Body.TheVariants.{Changed}
 use Rattle.market_events.specs.declared.events.Entry.{Entry}
 use Rattle.market_events.specs.declared.events.Event.{Event}
 use Rattle.market_events.specs.declared.events.What.TheVariants.{Taken, Made}
-use Rattle.market_events.specs.declared.links.Link.TheVariants.{Service}
+use Rattle.market_events.specs.declared.links.TheConstants.{PRODUCT_TO_CART}
 use Rattle.market_history.specs.Sent.{sent, IsNumbered, IsMatchedOn}
 use Rattle.market_history.specs.Stamps.{IsStamped}
 use Rattle.market_history.specs.Causality.{known, past_of, HasPasts, IsBefore, at_sender}
@@ -17,7 +17,7 @@ mug = record { seller = 3; product = 40 }
 
 -- the event of this number on link 0, with this past
 abbrev event_of : ℕ → List ℕ → Change → Event
-event_of number past change = record { link = Service 0; number = number; clock = number; past = past; body = Changed mug number change }
+event_of number past change = record { link = PRODUCT_TO_CART; number = number; clock = number; past = past; body = Changed mug number change }
 
 abbrev first : Event
 first = event_of 1 (0 ∷ 0 ∷ 0 ∷ 0 ∷ 0 ∷ 0 ∷ 0 ∷ 0 ∷ 0 ∷ 0 ∷ 0 ∷ 0 ∷ 0 ∷ 0 ∷ 0 ∷ 0 ∷ []) (Created 1000 50)
@@ -41,14 +41,14 @@ pasts : HasPasts journal
 unfolding past_of
 pasts = (refl, (refl, tt))
 
-sent_on_link_0 : sent (Service 0) journal ≡ first ∷ second ∷ []
+sent_on_link_0 : sent PRODUCT_TO_CART journal ≡ first ∷ second ∷ []
 sent_on_link_0 = refl
 
-numbered : IsNumbered (sent (Service 0) journal)
+numbered : IsNumbered (sent PRODUCT_TO_CART journal)
 numbered = refl
 
 -- a receiver that took the first change
-matched : IsMatchedOn (Service 0) journal (record { clock = 2; what = Taken first } ∷ [])
+matched : IsMatchedOn PRODUCT_TO_CART journal (record { clock = 2; what = Taken first } ∷ [])
 matched = (second ∷ [], refl)
 
 -- the journals of all nodes, of which only the product's has entries

@@ -16,7 +16,7 @@ use Rattle.market_events.specs.Requests.{same_id}
 use Rattle.market_events.specs.Stocks.{first_some}
 use Rattle.market_history.specs.Blocks.{Out, Arrival, what_of, with_what, next_event, with_out, grow}
 use Rattle.market_history.specs.Once.{reply_in, reply_of}
-use Rattle.market_history.specs.Sent.{made_on, sent, IsPrefixOf}
+use Rattle.market_history.specs.Sent.{event_made_on, sent, IsPrefixOf}
 use Rattle.market_history.proofs.SentLaws.{filter_map-push}
 use Rattle.market_history.proofs.GrowLaws.{entry_of, what_left, with_out-is, outs_after, grow-begins}
 
@@ -30,11 +30,11 @@ abbrev pub bodies_on : Link → List Entry → List Body
 bodies_on link entries = map (λ (e : Event). e.body) (sent link entries)
 
 -- one part more that is made
-pub sent-with_out : (link : Link) (entries : List Entry) (out : Out) → sent link (with_out entries out) ≡ sent link entries ++ option_to_list (made_on link (what_left entries out))
+pub sent-with_out : (link : Link) (entries : List Entry) (out : Out) → sent link (with_out entries out) ≡ sent link entries ++ option_to_list (event_made_on link (what_left entries out))
 sent-with_out link entries out =
-    ap (sent link) (with_out-is entries out) ∙ filter_map-push (λ (x : Entry). made_on link x.what) entries (entry_of entries (what_left entries out))
+    ap (sent link) (with_out-is entries out) ∙ filter_map-push (λ (x : Entry). event_made_on link x.what) entries (entry_of entries (what_left entries out))
 
-body_left : (link : Link) (entries : List Entry) (out : Out) → map (λ (e : Event). e.body) (option_to_list (made_on link (what_left entries out))) ≡ option_to_list (out_on link out)
+body_left : (link : Link) (entries : List Entry) (out : Out) → map (λ (e : Event). e.body) (option_to_list (event_made_on link (what_left entries out))) ≡ option_to_list (out_on link out)
 body_left link entries (Out.Makes l b) = by (same_link l link) refl
   where
     by : (test : Bool) → same_link l link ≡ test → map (λ (e : Event). e.body) (option_to_list (if test then Some (next_event entries l b) else None)) ≡ option_to_list (if test then Some b else None)
@@ -45,7 +45,7 @@ body_left link entries (Out.Answers id reply) = refl
 pub bodies-with_out : (link : Link) (entries : List Entry) (out : Out) → bodies_on link (with_out entries out) ≡ bodies_on link entries ++ option_to_list (out_on link out)
 bodies-with_out link entries out =
     ap (map (λ (e : Event). e.body)) (sent-with_out link entries out)
-    ∙ map-append (λ (e : Event). e.body) (sent link entries) (option_to_list (made_on link (what_left entries out)))
+    ∙ map-append (λ (e : Event). e.body) (sent link entries) (option_to_list (event_made_on link (what_left entries out)))
     ∙ ap (λ l. bodies_on link entries ++ l) (body_left link entries out)
 
 on_one : (link : Link) (out : Out) (outs : List Out) → filter_map (out_on link) (out ∷ outs) ≡ option_to_list (out_on link out) ++ filter_map (out_on link) outs
@@ -62,13 +62,13 @@ bodies-outs link entries (out ∷ outs) =
     ∙ append_assoc (bodies_on link entries) (option_to_list (out_on link out)) (filter_map (out_on link) outs)
     ∙ ap (λ l. bodies_on link entries ++ l) (sym (on_one link out outs))
 
-made_on-arrival : (link : Link) (arrival : Arrival) → made_on link (what_of arrival) ≡ None
+made_on-arrival : (link : Link) (arrival : Arrival) → event_made_on link (what_of arrival) ≡ None
 made_on-arrival link (Arrival.Gives request) = refl
 made_on-arrival link (Arrival.Takes event) = refl
 
 pub sent-arrival : (link : Link) (entries : List Entry) (arrival : Arrival) → sent link (with_what entries (what_of arrival)) ≡ sent link entries
 sent-arrival link entries arrival =
-    filter_map-push (λ (x : Entry). made_on link x.what) entries (entry_of entries (what_of arrival))
+    filter_map-push (λ (x : Entry). event_made_on link x.what) entries (entry_of entries (what_of arrival))
     ∙ ap (λ o. sent link entries ++ option_to_list o) (made_on-arrival link arrival) ∙ append-nil (sent link entries)
 
 -- the bodies that a block makes on the link
@@ -87,7 +87,7 @@ length-sent-grow link n entries arrival =
 
 -- what was sent on a link begins as it was
 pub sent-prefix : (link : Link) (xs ys : List Entry) → IsPrefixOf xs ys → IsPrefixOf (sent link xs) (sent link ys)
-sent-prefix link xs ys (rest, is) = (sent link rest, ap (sent link) is ∙ filter_map-append (λ (x : Entry). made_on link x.what) xs rest)
+sent-prefix link xs ys (rest, is) = (sent link rest, ap (sent link) is ∙ filter_map-append (λ (x : Entry). event_made_on link x.what) xs rest)
 
 pub sent-grow-begins : (link : Link) (n : ℕ) (entries : List Entry) (arrival : Arrival) → IsPrefixOf (sent link entries) (sent link (grow n entries arrival))
 sent-grow-begins link n entries arrival = sent-prefix link entries (grow n entries arrival) (grow-begins n entries arrival)

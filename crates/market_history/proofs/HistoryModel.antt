@@ -4,20 +4,21 @@ use Rattle.std.specs.Prelude.{slice_index_or}
 use Rattle.std.specs.List.{range_with_len}
 use Rattle.std.proofs.lemmas.List.{length-map, get_or-map}
 use Rattle.std.proofs.lemmas.List.FromFn.{length-range_with_len, get_or-range_with_len}
-use Rattle.market_history.specs.Histories.{nodes, entries_of, journal_at, AreJournals, IsHistories}
+use Rattle.market_events.specs.declared.nodes.TheConstants.{NODES}
+use Rattle.market_history.specs.Histories.{entries_of, journal_at, AreJournals, IsHistories}
 use Rattle.market_history.specs.Journals.{JournalState, IsJournal}
 
 -- there are as many as nodes
-pub journals-many : (journals : List JournalState) → map (λ (j : JournalState). j.node) journals ≡ range_with_len 0 nodes → length journals ≡ nodes
-journals-many journals order = sym (length-map journals (λ (j : JournalState). j.node)) ∙ ap length order ∙ length-range_with_len 0 nodes
+pub journals-many : (journals : List JournalState) → map (λ (j : JournalState). j.node) journals ≡ range_with_len 0 NODES → length journals ≡ NODES
+journals-many journals order = sym (length-map journals (λ (j : JournalState). j.node)) ∙ ap length order ∙ length-range_with_len 0 NODES
 
-pub node-at : (journals : List JournalState) (n : ℕ) (j : JournalState) → map (λ (j : JournalState). j.node) journals ≡ range_with_len 0 nodes → n < nodes → j ≡ slice_index_or journals n j → j.node ≡ n
+pub node-at : (journals : List JournalState) (n : ℕ) (j : JournalState) → map (λ (j : JournalState). j.node) journals ≡ range_with_len 0 NODES → n < NODES → j ≡ slice_index_or journals n j → j.node ≡ n
 node-at journals n j order lt is =
     let within : n < length journals = subst (λ k. n < k) (sym (journals-many journals order)) lt in
     ap (λ (j : JournalState). j.node) is ∙ sym (get_or-map (λ (j : JournalState). j.node) journals n j 0 within)
-    ∙ ap (λ ns. slice_index_or ns n 0) order ∙ get_or-range_with_len 0 nodes n 0 lt ∙ omega arith
+    ∙ ap (λ ns. slice_index_or ns n 0) order ∙ get_or-range_with_len 0 NODES n 0 lt ∙ omega arith
 
-pub entries-at : (journals : List JournalState) (n : ℕ) (j : JournalState) → map (λ (j : JournalState). j.node) journals ≡ range_with_len 0 nodes → n < nodes → j ≡ slice_index_or journals n j → j.entries ≡ journal_at (entries_of journals) n
+pub entries-at : (journals : List JournalState) (n : ℕ) (j : JournalState) → map (λ (j : JournalState). j.node) journals ≡ range_with_len 0 NODES → n < NODES → j ≡ slice_index_or journals n j → j.entries ≡ journal_at (entries_of journals) n
 unfolding journal_at
 entries-at journals n j order lt is =
     let within : n < length journals = subst (λ k. n < k) (sym (journals-many journals order)) lt in
@@ -30,10 +31,10 @@ get_or-within (x ∷ xs) zero d e lt = refl
 get_or-within (x ∷ xs) (suc n) d e lt = get_or-within xs n d e (omega arith)
 
 -- so the journals are histories
-pub are-histories : (journals : List JournalState) → map (λ (j : JournalState). j.node) journals ≡ range_with_len 0 nodes → AreJournals journals → IsHistories (entries_of journals)
+pub are-histories : (journals : List JournalState) → map (λ (j : JournalState). j.node) journals ≡ range_with_len 0 NODES → AreJournals journals → IsHistories (entries_of journals)
 are-histories journals order each = record { each = length-map journals (λ (j : JournalState). j.entries) ∙ journals-many journals order; journals = at }
   where
-    at : (n : ℕ) → n < nodes → IsJournal n (journal_at (entries_of journals) n)
+    at : (n : ℕ) → n < NODES → IsJournal n (journal_at (entries_of journals) n)
     at n lt =
         let within : n < length journals = subst (λ k. n < k) (sym (journals-many journals order)) lt in
         let none : JournalState = record { node = 0; entries = []; spare = 0 } in

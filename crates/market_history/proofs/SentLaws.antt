@@ -13,7 +13,7 @@ use Rattle.market_events.specs.declared.links.Link.{Link}
 use Rattle.market_events.specs.declared.requests.Request.{Request}
 use Rattle.market_events.specs.declared.replies.Reply.{Reply}
 use Rattle.market_events.specs.Links.{same_link}
-use Rattle.market_history.specs.Sent.{event_on, made_on, got_on, sent, got, IsNumbered, IsPrefixOf, IsMatchedOn}
+use Rattle.market_history.specs.Sent.{event_on, event_made_on, got_on, sent, got, IsNumbered, IsPrefixOf, IsMatchedOn}
 
 -- one element more gives at most one more
 pub filter_map-push : {A B : Type 0} (f : A → Option B) (xs : List A) (x : A) → filter_map f (xs ++ x ∷ []) ≡ filter_map f xs ++ option_to_list (f x)
@@ -24,8 +24,8 @@ filter_map-push f xs x = filter_map-append f xs (x ∷ []) ∙ ap (λ ys. filter
     of_one (Some y) = refl
 
 -- one entry more, whatever it is
-pub sent-push : (link : Link) (xs : List Entry) (x : Entry) → sent link (xs ++ x ∷ []) ≡ sent link xs ++ option_to_list (made_on link x.what)
-sent-push link xs x = filter_map-push (λ (y : Entry). made_on link y.what) xs x
+pub sent-push : (link : Link) (xs : List Entry) (x : Entry) → sent link (xs ++ x ∷ []) ≡ sent link xs ++ option_to_list (event_made_on link x.what)
+sent-push link xs x = filter_map-push (λ (y : Entry). event_made_on link y.what) xs x
 
 pub got-push : (link : Link) (xs : List Entry) (x : Entry) → got link (xs ++ x ∷ []) ≡ got link xs ++ option_to_list (got_on link x.what)
 got-push link xs x = filter_map-push (λ (y : Entry). got_on link y.what) xs x
@@ -38,30 +38,30 @@ event_on-other : (link : Link) (event : Event) → same_link event.link link ≡
 event_on-other link event other = rw other
 
 -- the entry made this event on the link
-pub sent-push-some : (link : Link) (xs : List Entry) (x : Entry) (event : Event) → made_on link x.what ≡ Some event → sent link (xs ++ x ∷ []) ≡ sent link xs ++ event ∷ []
+pub sent-push-some : (link : Link) (xs : List Entry) (x : Entry) (event : Event) → event_made_on link x.what ≡ Some event → sent link (xs ++ x ∷ []) ≡ sent link xs ++ event ∷ []
 sent-push-some link xs x event some = sent-push link xs x ∙ ap (λ o. sent link xs ++ option_to_list o) some
 
 -- the entry made none on the link
-pub sent-push-none : (link : Link) (xs : List Entry) (x : Entry) → made_on link x.what ≡ None → sent link (xs ++ x ∷ []) ≡ sent link xs
+pub sent-push-none : (link : Link) (xs : List Entry) (x : Entry) → event_made_on link x.what ≡ None → sent link (xs ++ x ∷ []) ≡ sent link xs
 sent-push-none link xs x none =
     sent-push link xs x ∙ ap (λ o. sent link xs ++ option_to_list o) none ∙ append-nil (sent link xs)
 
 pub sent-push-made : (link : Link) (xs : List Entry) (x : Entry) (event : Event) → x.what ≡ Made event → same_link event.link link ≡ true → sent link (xs ++ x ∷ []) ≡ sent link xs ++ event ∷ []
 sent-push-made link xs x event is same =
-    sent-push-some link xs x event (ap (λ w. made_on link w) is ∙ event_on-same link event same)
+    sent-push-some link xs x event (ap (λ w. event_made_on link w) is ∙ event_on-same link event same)
 
 pub sent-push-made_other : (link : Link) (xs : List Entry) (x : Entry) (event : Event) → x.what ≡ Made event → same_link event.link link ≡ false → sent link (xs ++ x ∷ []) ≡ sent link xs
 sent-push-made_other link xs x event is other =
-    sent-push-none link xs x (ap (λ w. made_on link w) is ∙ event_on-other link event other)
+    sent-push-none link xs x (ap (λ w. event_made_on link w) is ∙ event_on-other link event other)
 
 pub sent-push-taken : (link : Link) (xs : List Entry) (x : Entry) (event : Event) → x.what ≡ Taken event → sent link (xs ++ x ∷ []) ≡ sent link xs
-sent-push-taken link xs x event is = sent-push-none link xs x (ap (λ w. made_on link w) is)
+sent-push-taken link xs x event is = sent-push-none link xs x (ap (λ w. event_made_on link w) is)
 
 pub sent-push-given : (link : Link) (xs : List Entry) (x : Entry) (request : Request) → x.what ≡ Given request → sent link (xs ++ x ∷ []) ≡ sent link xs
-sent-push-given link xs x request is = sent-push-none link xs x (ap (λ w. made_on link w) is)
+sent-push-given link xs x request is = sent-push-none link xs x (ap (λ w. event_made_on link w) is)
 
 pub sent-push-answered : (link : Link) (xs : List Entry) (x : Entry) (id : RequestId) (reply : Reply) → x.what ≡ Answered id reply → sent link (xs ++ x ∷ []) ≡ sent link xs
-sent-push-answered link xs x id reply is = sent-push-none link xs x (ap (λ w. made_on link w) is)
+sent-push-answered link xs x id reply is = sent-push-none link xs x (ap (λ w. event_made_on link w) is)
 
 -- the entry took this event on the link
 pub got-push-some : (link : Link) (xs : List Entry) (x : Entry) (event : Event) → got_on link x.what ≡ Some event → got link (xs ++ x ∷ []) ≡ got link xs ++ event ∷ []
@@ -156,7 +156,7 @@ IsPrefixOf-next xs ys y (rest, is) there =
 pub IsMatchedOn-made : (link : Link) (sender receiver : List Entry) (x : Entry) → IsMatchedOn link sender receiver → IsMatchedOn link (sender ++ x ∷ []) receiver
 IsMatchedOn-made link sender receiver x matched =
     subst (λ events. IsPrefixOf (got link receiver) events) (sym (sent-push link sender x))
-    (IsPrefixOf-more (got link receiver) (sent link sender) (option_to_list (made_on link x.what)) matched)
+    (IsPrefixOf-more (got link receiver) (sent link sender) (option_to_list (event_made_on link x.what)) matched)
 
 -- an event more that the receiver took, the next that the sender made
 pub IsMatchedOn-taken : (link : Link) (sender receiver : List Entry) (x : Entry) (event : Event) → IsMatchedOn link sender receiver → x.what ≡ Taken event → same_link event.link link ≡ true → slice_get (sent link sender) (length (got link receiver)) ≡ Some event → IsMatchedOn link sender (receiver ++ x ∷ [])

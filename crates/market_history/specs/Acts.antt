@@ -1,5 +1,6 @@
 -- What was accepted so far, and the tables, which are the sums of it.
-use Rattle.std.specs.Prelude.{ℕ, ◌+◌, ◌-◌, ◌==◌, ◌&&◌, not, List, [], Option, Some, None, map, filter, filter_map, if◌then◌else◌}
+use Rattle.std.specs.Prelude.{ℕ, ◌+◌, ◌-◌, ◌==◌, ◌&&◌, not, List, [], Option, Some, None, map, filter}
+use Rattle.std.specs.Prelude.{filter_map, if◌then◌else◌}
 use Rattle.std.specs.List.{list_any, sum_by, count_by, flat_map}
 use Rattle.market_amounts.specs.declared.keys.ProductKey.{ProductKey}
 use Rattle.market_amounts.specs.declared.keys.RequestId.{RequestId}
@@ -36,9 +37,9 @@ pub record CardAct : Type 0 where
   pub customer : ℕ
   pub limit : ℕ
 
--- what was accepted: changes of products, lines set and removed and baskets sent on, pieces stocked, cards, the checkouts
--- that are whole, those that are undone with their rules, those of them that were not paid, the items delivered, and the
--- changes of each seller's entries
+-- what was accepted: changes of products, lines set and removed and baskets sent on, pieces stocked, cards,
+-- the checkouts that are whole, those that are undone with their rules, those of them that were not paid, the
+-- items delivered, and the changes of each seller's entries
 pub record Acts : Type 0 where
   pub changes : List ProductChange
   pub baskets : List BasketAct
@@ -51,7 +52,19 @@ pub record Acts : Type 0 where
   pub entries : ℕ → List SellerChange
 
 abbrev pub no_acts : Acts
-no_acts = record { changes = []; baskets = []; stocked = []; cards = []; whole = []; undone = []; unpaid = []; items = []; entries = λ seller. [] }
+no_acts =
+    record {
+      changes = [];
+      baskets = [];
+      stocked = [];
+      cards = [];
+      whole = [];
+      undone = [];
+      unpaid = [];
+      items
+          = [];
+      entries = λ seller. [];
+    }
 
 -- what the act leaves of this customer's line of this product
 abbrev pub line_left : ℕ → ProductKey → BasketAct → Option (Option Held)
@@ -68,7 +81,8 @@ act_key customer (Emptied c) = None
 
 -- the basket of a customer by rising key
 abbrev pub basket_by : List BasketAct → ℕ → List (ProductKey × Held)
-basket_by acts customer = listed (filter_map (λ key. with_key key (line_at acts customer key)) (filter_map (act_key customer) acts))
+basket_by acts customer =
+    listed (filter_map (λ key. with_key key (line_at acts customer key)) (filter_map (act_key customer) acts))
 
 -- the pieces of a product that were stocked, and those that whole checkouts took
 abbrev pub pieces_stocked : List StockAct → ProductKey → ℕ
@@ -110,18 +124,23 @@ card_limit customer act = if act.customer == customer then Some act.limit else N
 abbrev pub limit_by : List CardAct → ℕ → Option ℕ
 limit_by acts customer = last_some (card_limit customer) acts
 
-abbrev pub paid_by : List Reservation → ℕ → ℕ
-paid_by checkouts customer = sum_by (λ (r : Reservation). if r.customer == customer then total_of r.lines else 0) checkouts
+abbrev pub paid_for_checkouts : List Reservation → ℕ → ℕ
+paid_for_checkouts checkouts customer =
+    sum_by (λ (r : Reservation). if r.customer == customer then total_of r.lines else 0) checkouts
 
 -- the packages of whole checkouts, one for each line, and those of them that no delivery has
 abbrev pub packages_for : Reservation → List Item
-packages_for r = map (λ (line : PricedLine). record { checkout = r.checkout; customer = r.customer; key = line.key }) r.lines
+packages_for r =
+    map (λ (line : PricedLine). record { checkout = r.checkout; customer = r.customer; key = line.key })
+    r.lines
 
-abbrev pub packages_by : List Reservation → List Item
-packages_by checkouts = flat_map packages_for checkouts
+abbrev pub packages_of_checkouts : List Reservation → List Item
+packages_of_checkouts checkouts = flat_map packages_for checkouts
 
-abbrev pub waiting_by : List Reservation → List Item → List Item
-waiting_by checkouts items = filter (λ (p : Item). not (list_any (is_item_of p.checkout p.key) items)) (packages_by checkouts)
+abbrev pub packages_waiting : List Reservation → List Item → List Item
+packages_waiting checkouts items =
+    filter (λ (p : Item). not (list_any (is_item_of p.checkout p.key) items))
+    (packages_of_checkouts checkouts)
 
 -- how many checkouts are of this customer
 abbrev pub count_for : List Reservation → ℕ → ℕ
@@ -144,10 +163,10 @@ abbrev pub order_table : Acts → OrderSums
 order_table acts = record { status = status_by acts; total = total_by acts }
 
 abbrev pub payment_table : Acts → PaymentSums
-payment_table acts = record { limit = limit_by acts.cards; spent = paid_by acts.whole }
+payment_table acts = record { limit = limit_by acts.cards; spent = paid_for_checkouts acts.whole }
 
 abbrev pub shipment_table : Acts → ShipmentSums
-shipment_table acts = record { waiting = waiting_by acts.whole acts.items }
+shipment_table acts = record { waiting = packages_waiting acts.whole acts.items }
 
 abbrev pub customer_table : Acts → CustomerSums
 customer_table acts = record {

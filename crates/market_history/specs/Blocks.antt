@@ -1,5 +1,6 @@
 -- Blocks: what comes to a node, what it makes of it, and how a journal grows by one block.
-use Rattle.std.specs.Prelude.{◌≡◌, ℕ, ◌+◌, true, Option, Some, None, List, [], ◌∷◌, ◌++◌, map, length, nat_lt, fold, if◌then◌else◌, ◌==◌}
+use Rattle.std.specs.Prelude.{ℕ, ◌+◌, Option, Some, None, List, [], ◌∷◌, ◌++◌, map, length, nat_lt}
+use Rattle.std.specs.Prelude.{fold, if◌then◌else◌, ◌==◌}
 use Rattle.std.specs.List.{filter_map}
 use Rattle.market_amounts.specs.declared.keys.RequestId.{RequestId}
 use Rattle.market_events.specs.declared.bodies.Body.{Body}
@@ -12,9 +13,11 @@ use Rattle.market_events.specs.declared.links.Link.{Link}
 use Rattle.market_events.specs.declared.links.Link.TheVariants.{Asked}
 use Rattle.market_events.specs.declared.replies.Reply.{Reply}
 use Rattle.market_events.specs.declared.requests.Request.{Request}
-use Rattle.market_events.specs.Links.{cart_node, product_node, stock_node, order_node, payment_node, shipment_node, customer_node, service_by_ask}
+use Rattle.market_events.specs.Links.{cart_node, product_node, stock_node, order_node, payment_node}
+use Rattle.market_events.specs.Links.{shipment_node, customer_node, service_by_ask}
 use Rattle.market_events.specs.Requests.{lane_of}
-use Rattle.market_events.specs.Services.{Role, node_of, fits, reactions}
+use Rattle.market_events.specs.declared.roles.Role.{Role}
+use Rattle.market_events.specs.Services.{node_of, fits, reactions}
 use Rattle.market_events.specs.Standing.{with_step}
 use Rattle.market_events.specs.Steps.{Step, Sending}
 use Rattle.market_history.specs.Causality.{past_of}
@@ -58,14 +61,17 @@ inputs_of entries = filter_map (λ (x : Entry). input_in (part_of x.what)) entri
 -- the service with this number
 abbrev pub role_at : ℕ → Role
 role_at n =
-    if n == cart_node then Role.Cart else if n == product_node then Role.Product else if n == stock_node then Role.Stock
+    if n == cart_node then Role.Cart else if n == product_node then Role.Product else if n == stock_node then
+    Role.Stock
     else if n == order_node then Role.Order else if n == payment_node then Role.Payment
-    else if n == shipment_node then Role.Shipment else if n == customer_node then Role.Customer else Role.Seller
+    else if n == shipment_node then Role.Shipment else if n == customer_node then Role.Customer else
+    Role.Seller
 
 -- the steps of a service with one input more, which joins them where it fits
 abbrev pub with_input : Role → List Step → Input → List Step
 with_input role steps (Input.Gives request) = steps
-with_input role steps (Input.Takes from b) = if fits role steps from b then with_step role steps from b else steps
+with_input role steps (Input.Takes from b) =
+    if fits role steps from b then with_step role steps from b else steps
 
 -- the steps that a service took
 abbrev pub steps_of : Role → List Input → List Step
@@ -89,7 +95,8 @@ told_outs other = []
 
 -- a lane asks a request's service, and answers what it is told
 abbrev pub lane_outs : Input → List Out
-lane_outs (Input.Gives request) = Out.Makes (Asked (lane_of request.id) (service_by_ask request.ask)) (body.Asked request) ∷ []
+lane_outs (Input.Gives request) =
+    Out.Makes (Asked (lane_of request.id) (service_by_ask request.ask)) (body.Asked request) ∷ []
 lane_outs (Input.Takes from b) = told_outs b
 
 -- how many of the nodes are services; those after them are lanes
@@ -99,7 +106,8 @@ services = 8
 -- what the node makes of an input, after those that came before it
 unfoldable pub node_outs : ℕ → List Input → Input → List Out
 node_outs n before input =
-    if nat_lt n services then service_outs (role_at n) (steps_of (role_at n) before) input else lane_outs input
+    if nat_lt n services then service_outs (role_at n) (steps_of (role_at n) before) input else lane_outs
+    input
 
 -- one block: the input, and what the node makes of it
 abbrev pub block : ℕ → List Input → Input → List Part

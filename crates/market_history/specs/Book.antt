@@ -1,6 +1,7 @@
--- The book: what was accepted in histories, the tables of the services at the journals' ends, and what these are as sums of
--- what was accepted.
-use Rattle.std.specs.Prelude.{◌≡◌, ℕ, ◌+◌, ◌*◌, Bool, true, false, not, ◌==◌, ◌&&◌, Option, Some, None, List, [], ◌∷◌, ◌++◌, map, filter, length, if◌then◌else◌}
+-- The book: what was accepted in histories, the tables of the services at the journals' ends, and what these
+-- are as sums of what was accepted.
+use Rattle.std.specs.Prelude.{◌≡◌, ℕ, ◌+◌, ◌*◌, Bool, true, false, not, ◌==◌, Option, Some, None, List}
+use Rattle.std.specs.Prelude.{[], map, filter, length, if◌then◌else◌}
 use Rattle.std.specs.List.{filter_map, flat_map, list_any, sum_by, count_by}
 use Rattle.market_amounts.specs.declared.keys.ProductKey.{ProductKey}
 use Rattle.market_amounts.specs.declared.keys.RequestId.{RequestId}
@@ -9,6 +10,7 @@ use Rattle.market_events.specs.declared.bodies.Body.TheVariants as body
 use Rattle.market_events.specs.declared.bodies.Item.{Item}
 use Rattle.market_events.specs.declared.bodies.PricedLine.{PricedLine}
 use Rattle.market_events.specs.declared.changes.Look.{Look}
+use Rattle.market_events.specs.declared.links.TheConstants.{PAYMENT_TO_STOCK}
 use Rattle.market_events.specs.declared.replies.EntryRow.{EntryRow}
 use Rattle.market_events.specs.declared.replies.OrderStatus.{OrderStatus}
 use Rattle.market_events.specs.declared.replies.OrderStatus.TheVariants as status
@@ -25,11 +27,13 @@ use Rattle.market_events.specs.Orders.{is_of, is_item_of, order_status, order_to
 use Rattle.market_events.specs.Payments.{limit_of, spent}
 use Rattle.market_events.specs.Products.{changes_made}
 use Rattle.market_events.specs.Sellers.{in_progress_at, row_with, seller_changes}
-use Rattle.market_events.specs.Services.{Role}
+use Rattle.market_events.specs.declared.roles.Role.{Role}
 use Rattle.market_events.specs.Shipments.{packages, open_packages, items_made}
 use Rattle.market_events.specs.Steps.{Step, Sending, made_in, made_on, taken_bodies}
 use Rattle.market_events.specs.Stocks.{Reservation, on_hand, reserved, reservations}
-use Rattle.market_history.specs.Acts.{Acts, BasketAct, StockAct, CardAct, basket_by, on_hand_by, status_by, total_by, limit_by, paid_by, packages_by, waiting_by, count_for}
+use Rattle.market_history.specs.Acts.{Acts, BasketAct, StockAct, CardAct, basket_by, on_hand_by, status_by}
+use Rattle.market_history.specs.Acts.{total_by, limit_by, count_for, packages_of_checkouts}
+use Rattle.market_history.specs.Acts.{paid_for_checkouts, packages_waiting}
 use Rattle.market_history.specs.Blocks.{service_steps}
 use Rattle.market_history.specs.Histories.{Histories}
 use Rattle.market_history.specs.Once.{reply_at}
@@ -37,9 +41,12 @@ use Rattle.market_history.specs.Once.{reply_at}
 -- an accepted line or removal, or a checkout that was sent on
 abbrev pub basket_act_of : Ask → Bool → Bool → Option BasketAct
 basket_act_of (ask.Line customer key quantity voucher) accepted sent_on =
-    if accepted then Some (BasketAct.Left customer key (Some (record { quantity = quantity; voucher = voucher }))) else None
-basket_act_of (ask.Remove customer key) accepted sent_on = if accepted then Some (BasketAct.Left customer key None) else None
-basket_act_of (ask.Checkout customer) accepted sent_on = if sent_on then Some (BasketAct.Emptied customer) else None
+    if accepted then Some
+    (BasketAct.Left customer key (Some (record { quantity = quantity; voucher = voucher }))) else None
+basket_act_of (ask.Remove customer key) accepted sent_on =
+    if accepted then Some (BasketAct.Left customer key None) else None
+basket_act_of (ask.Checkout customer) accepted sent_on =
+    if sent_on then Some (BasketAct.Emptied customer) else None
 basket_act_of other accepted sent_on = None
 
 abbrev pub basket_act_in : Body → Bool → Bool → Option BasketAct
@@ -51,7 +58,8 @@ basket_act step = basket_act_in step.body (is_accepted step) (is_sent_on step)
 
 -- an accepted request to stock pieces
 abbrev pub stock_act_of : Ask → Bool → Option StockAct
-stock_act_of (ask.Stock key pieces) accepted = if accepted then Some (record { key = key; pieces = pieces }) else None
+stock_act_of (ask.Stock key pieces) accepted =
+    if accepted then Some (record { key = key; pieces = pieces }) else None
 stock_act_of other accepted = None
 
 abbrev pub stock_act_in : Body → Bool → Option StockAct
@@ -72,7 +80,8 @@ card_act other = None
 
 -- the checkout that the body says to be paid
 abbrev pub paid_in : Body → Option Reservation
-paid_in (body.Confirmed checkout customer lines total) = Some (record { checkout = checkout; customer = customer; lines = lines })
+paid_in (body.Confirmed checkout customer lines total) =
+    Some (record { checkout = checkout; customer = customer; lines = lines })
 paid_in other = None
 
 abbrev pub is_whole_reply : Option Reply → Bool
@@ -80,9 +89,9 @@ is_whole_reply (Some (reply.Whole total)) = true
 is_whole_reply other = false
 
 -- the checkout that a body tells to be undone, with the rule
-abbrev pub undone_in : Sending → Option (RequestId × UndoneRule)
-undone_in (link, body.Told id (reply.Undone rule)) = Some (id, rule)
-undone_in other = None
+abbrev pub undone_sent : Sending → Option (RequestId × UndoneRule)
+undone_sent (link, body.Told id (reply.Undone rule)) = Some (id, rule)
+undone_sent other = None
 
 abbrev pub is_unpaid : UndoneRule → Bool
 is_unpaid undone.NoCard = true
@@ -91,22 +100,24 @@ is_unpaid other = false
 
 -- the checkouts that the cart told to be undone, in that order
 abbrev pub undone_at : Histories → List (RequestId × UndoneRule)
-undone_at h = filter_map undone_in (made_in (service_steps h Role.Cart))
+undone_at h = filter_map undone_sent (made_in (service_steps h Role.Cart))
 
 -- of those that were not paid, what stock had reserved
 abbrev pub unpaid_of : Histories → (RequestId × UndoneRule) → List Reservation
 unpaid_of h u = if is_unpaid u.1 then filter (is_of u.0) (reservations (service_steps h Role.Stock)) else []
 
--- what was accepted: changes in the product service's order, lines and removals and checkouts sent on in the cart's, pieces
--- in stock's, cards and whole checkouts in payment's, undone checkouts in the cart's, deliveries in shipment's, and the
--- changes of each seller's entries
+-- what was accepted: changes in the product service's order, lines and removals and checkouts sent on in the
+-- cart's, pieces in stock's, cards and whole checkouts in payment's, undone checkouts in the cart's,
+-- deliveries in shipment's, and the changes of each seller's entries
 unfoldable pub acts_of : Histories → Acts
 acts_of h = record {
   changes = changes_made (service_steps h Role.Product);
   baskets = filter_map basket_act (service_steps h Role.Cart);
   stocked = filter_map stock_act (service_steps h Role.Stock);
   cards = filter_map card_act (taken_bodies (service_steps h Role.Payment));
-  whole = filter (λ (r : Reservation). is_whole_reply (reply_at h r.checkout)) (filter_map paid_in (made_on 8 (service_steps h Role.Payment)));
+  whole =
+      filter (λ (r : Reservation). is_whole_reply (reply_at h r.checkout))
+      (filter_map paid_in (made_on PAYMENT_TO_STOCK (service_steps h Role.Payment)));
   undone = undone_at h;
   unpaid = flat_map (unpaid_of h) (undone_at h);
   items = items_made (service_steps h Role.Shipment);
@@ -135,8 +146,8 @@ pub record Tables : Type 0 where
   pub point : ℕ → ℕ
 
 -- the sums over the steps that the services took
-unfoldable pub tables_of : Histories → Tables
-tables_of h = record {
+unfoldable pub tables_at_end : Histories → Tables
+tables_at_end h = record {
   look = copy_of (changes_made (service_steps h Role.Product));
   version = version_of (changes_made (service_steps h Role.Product));
   cart_copy = copy_of (changes_taken (service_steps h Role.Cart));
@@ -166,12 +177,15 @@ line_count seller checkouts = sum_by (λ (r : Reservation). length (lines_for se
 
 -- the row of a line that was shipped
 abbrev pub shipped_row : RequestId → PricedLine → EntryRow
-shipped_row checkout line = row_with (record { checkout = checkout; line = line; status = status.Shipped }) status.Shipped
+shipped_row checkout line =
+    row_with (record { checkout = checkout; line = line; status = status.Shipped }) status.Shipped
 
 -- the lines of the seller in a whole checkout that no delivery has
 abbrev pub rows_under_way : List Item → ℕ → Reservation → List EntryRow
 rows_under_way items seller r =
-    map (shipped_row r.checkout) (filter (λ (line : PricedLine). not (list_any (is_item_of r.checkout line.key) items)) (lines_for seller r.lines))
+    map (shipped_row r.checkout)
+    (filter (λ (line : PricedLine). not (list_any (is_item_of r.checkout line.key) items))
+    (lines_for seller r.lines))
 
 -- the tables as sums of what was accepted
 unfoldable pub book : Acts → Tables
@@ -186,9 +200,9 @@ book acts = record {
   order_status = status_by acts;
   order_total = total_by acts;
   limit = limit_by acts.cards;
-  spent = paid_by acts.whole;
-  packages = packages_by acts.whole;
-  open_packages = waiting_by acts.whole acts.items;
+  spent = paid_for_checkouts acts.whole;
+  packages = packages_of_checkouts acts.whole;
+  open_packages = packages_waiting acts.whole acts.items;
   confirmed = count_for acts.whole;
   failed = count_for acts.unpaid;
   delivered = λ customer. count_by (λ (i : Item). i.customer == customer) acts.items;
@@ -220,4 +234,4 @@ pub record AreSameTables (a b : Tables) : Type 0 where
 
 -- the histories are the book: every table is the sum of what was accepted
 abbrev pub IsBook : Histories → Type 0
-IsBook h = AreSameTables (tables_of h) (book (acts_of h))
+IsBook h = AreSameTables (tables_at_end h) (book (acts_of h))

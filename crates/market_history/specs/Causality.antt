@@ -1,6 +1,7 @@
--- What a node's journal knows of each service link, the pasts of the events that it made, and which events come before
--- which.
-use Rattle.std.specs.Prelude.{◌≡◌, ℕ, max, List, [], ◌∷◌, ◌++◌, Option, Some, None, if◌then◌else◌, map, slice_index, Contains}
+-- What a node's journal knows of each service link, the pasts of the events that it made, and which events
+-- come before which.
+use Rattle.std.specs.Prelude.{◌≡◌, ℕ, max, List, [], ◌∷◌, ◌++◌, Option, Some, None, if◌then◌else◌, map}
+use Rattle.std.specs.Prelude.{slice_index, Contains}
 use Rattle.std.specs.List.{filter_map, range_with_len}
 use Rattle.market_events.specs.declared.events.Entry.{Entry}
 use Rattle.market_events.specs.declared.events.Event.{Event}
@@ -73,7 +74,10 @@ abbrev pub IsMadeAfter : List Entry → List Entry → Event → Type 0
 IsMadeAfter journal before event =
     (x : Entry) × (rest : List Entry) × (x.what ≡ Made event) × (journal ≡ before ++ x ∷ rest)
 
--- f comes before e: e's sender made or took f before it made e, or it took an event before it made e which f comes before
+-- f comes before e: e's sender made or took f before it made e, or it took an event before it made e which f
+-- comes before
 pub data IsBefore (journals : ℕ → List Entry) (f : Event) : Event → Type 0 where
-  at_sender : (e : Event) (before : List Entry) → IsMadeAfter (journals (sender_of e.link)) before e → Contains (events_seen before) f → IsBefore journals f e
-  through : (e g : Event) (before : List Entry) → IsMadeAfter (journals (sender_of e.link)) before e → Contains (events_taken before) g → IsBefore journals f g → IsBefore journals f e
+  at_sender : (e : Event) (before : List Entry) → IsMadeAfter (journals (sender_of e.link)) before e
+      → Contains (events_seen before) f → IsBefore journals f e
+  through : (e g : Event) (before : List Entry) → IsMadeAfter (journals (sender_of e.link)) before e
+      → Contains (events_taken before) g → IsBefore journals f g → IsBefore journals f e

@@ -1,5 +1,5 @@
 -- Values for the worked examples.
-use Rattle.std.specs.Prelude.{ℕ, List, [], ◌∷◌, replicate}
+use Rattle.std.specs.Prelude.{ℕ, List}
 use Rattle.market_amounts.specs.declared.keys.ProductKey.{ProductKey}
 use Rattle.market_amounts.specs.declared.keys.RequestId.{RequestId}
 use Rattle.market_events.specs.declared.bodies.Body.{Body}
@@ -9,9 +9,7 @@ use Rattle.market_events.specs.declared.events.Entry.{Entry}
 use Rattle.market_events.specs.declared.events.Event.{Event}
 use Rattle.market_events.specs.declared.events.What.TheVariants.{Given, Taken, Made, Answered}
 use Rattle.market_events.specs.declared.links.Link.{Link}
-use Rattle.market_events.specs.declared.links.Link.TheVariants.{Service, Asked, Told}
 use Rattle.market_events.specs.declared.replies.Reply.{Reply}
-use Rattle.market_events.specs.declared.replies.Reply.TheVariants as reply
 use Rattle.market_events.specs.declared.requests.Ask.{Ask}
 use Rattle.market_events.specs.declared.requests.Ask.TheVariants as ask
 use Rattle.market_events.specs.declared.requests.Request.{Request}

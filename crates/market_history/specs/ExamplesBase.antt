@@ -1,25 +1,31 @@
--- A checkout that is whole: a product is created and stocked, a card is set, and two pieces of it are checked out.
-use Rattle.std.specs.Prelude.{◌≡◌, ℕ, List, [], ◌∷◌, ◌++◌, Some, None}
+-- A checkout that is whole: a product is created and stocked, a card is set, and two pieces of it are checked
+-- out.
+use Rattle.std.specs.Prelude.{◌≡◌, ℕ, List, [], ◌∷◌, ◌++◌, Some}
 use Rattle.market_events.specs.declared.bodies.Item.{Item}
 use Rattle.market_events.specs.declared.bodies.PricedLine.{PricedLine}
 use Rattle.market_events.specs.declared.changes.Change.TheVariants.{Created}
 use Rattle.market_events.specs.declared.changes.Look.TheVariants.{Live}
-use Rattle.market_events.specs.declared.links.Link.{Link}
-use Rattle.market_events.specs.declared.links.Link.TheVariants.{Service, Asked, Told}
+use Rattle.market_events.specs.declared.links.Link.TheVariants.{Asked, Told}
+use Rattle.market_events.specs.declared.links.TheConstants.{PRODUCT_TO_CART, PRODUCT_TO_STOCK, CART_TO_STOCK}
+use Rattle.market_events.specs.declared.links.TheConstants.{STOCK_TO_ORDER, ORDER_TO_PAYMENT, ORDER_TO_SELLER}
+use Rattle.market_events.specs.declared.links.TheConstants.{ORDER_TO_CART, PAYMENT_TO_STOCK, PAYMENT_TO_ORDER}
+use Rattle.market_events.specs.declared.links.TheConstants.{PAYMENT_TO_SHIPMENT, PAYMENT_TO_CUSTOMER}
+use Rattle.market_events.specs.declared.links.TheConstants.{PAYMENT_TO_SELLER, SHIPMENT_TO_ORDER}
+use Rattle.market_events.specs.declared.links.TheConstants.{SHIPMENT_TO_SELLER}
 use Rattle.market_events.specs.declared.replies.EntryRow.{EntryRow}
 use Rattle.market_events.specs.declared.replies.OrderStatus.TheVariants as status
 use Rattle.market_events.specs.declared.replies.Reply.TheVariants as reply
 use Rattle.market_events.specs.declared.requests.Ask.TheVariants as ask
 use Rattle.market_events.specs.Stocks.{Reservation}
+use Rattle.market_history.specs.Output.{summary_of}
 use Rattle.market_history.specs.declared.schedule.Step.{Step}
-use Rattle.market_history.specs.declared.schedule.Summary.{Summary}
-use Rattle.market_history.specs.Acts.{Acts, BasketAct, StockAct, CardAct, no_acts, status_by, waiting_by}
-use Rattle.market_history.specs.Book.{Tables, acts_of, tables_of, book}
-use Rattle.market_history.specs.Checkouts.{IsWhole, listed_reservations}
+use Rattle.market_history.specs.Acts.{Acts, BasketAct, no_acts, status_by}
+use Rattle.market_history.specs.Acts.{packages_waiting}
+use Rattle.market_history.specs.Book.{Tables, acts_of, book, tables_at_end}
+use Rattle.market_history.specs.Checkouts.{IsWhole}
 use Rattle.market_history.specs.Examples.{mug, id, give, offer, create}
 use Rattle.market_history.specs.Histories.{Histories, no_histories}
 use Rattle.market_history.specs.Once.{reply_at}
-use Rattle.market_history.specs.Output.{counts_of}
 use Rattle.market_history.specs.Schedule.{play}
 
 -- a request that a service answers at once
@@ -28,14 +34,17 @@ answered_by service asked told = offer (Asked 7 service) asked ∷ offer (Told s
 
 abbrev pub base_steps : List Step
 base_steps =
-    give 1 create ∷ offer (Asked 7 1) 1 ∷ offer (Service 1) 1 ∷ offer (Service 0) 1 ∷ offer (Told 1 7) 1
+    give 1 create ∷ offer (Asked 7 1) 1 ∷ offer PRODUCT_TO_STOCK 1 ∷ offer PRODUCT_TO_CART 1
+    ∷ offer (Told 1 7) 1
     ∷ give 2 (ask.Stock mug 3) ∷ (answered_by 2 1 1 ++
     give 3 (ask.Card 7 10000) ∷ (answered_by 4 1 1 ++
     give 4 (ask.Line 7 mug 2 100) ∷ (answered_by 0 1 1 ++
     give 5 (ask.Checkout 7) ∷ offer (Asked 7 0) 2
-    ∷ offer (Service 2) 1 ∷ offer (Service 4) 1 ∷ offer (Service 6) 1 ∷ offer (Service 5) 1
-    ∷ offer (Service 8) 1 ∷ offer (Service 11) 1 ∷ offer (Service 12) 1 ∷ offer (Service 9) 1 ∷ offer (Service 10) 1
-    ∷ offer (Service 14) 1 ∷ offer (Service 13) 1 ∷ offer (Service 7) 1 ∷ offer (Told 0 7) 2 ∷ [])))
+    ∷ offer CART_TO_STOCK 1 ∷ offer STOCK_TO_ORDER 1 ∷ offer ORDER_TO_SELLER 1 ∷ offer ORDER_TO_PAYMENT 1
+    ∷ offer PAYMENT_TO_STOCK 1 ∷ offer PAYMENT_TO_CUSTOMER 1 ∷ offer PAYMENT_TO_SELLER 1
+    ∷ offer PAYMENT_TO_ORDER 1 ∷ offer PAYMENT_TO_SHIPMENT 1
+    ∷ offer SHIPMENT_TO_SELLER 1 ∷ offer SHIPMENT_TO_ORDER 1 ∷ offer ORDER_TO_CART 1 ∷ offer (Told 0 7) 2
+    ∷ [])))
 
 abbrev pub base : Histories
 base = play no_histories base_steps
@@ -55,7 +64,8 @@ base_row = record { checkout = id 5; product = 10; quantity = 2; amount = 1950; 
 -- what was accepted
 pub record HasBaseActs (acts : Acts) : Type 0 where
   pub changes : acts.changes ≡ record { key = mug; version = 1; change = Created 1000 50 } ∷ []
-  pub baskets : acts.baskets ≡ BasketAct.Left 7 mug (Some (record { quantity = 2; voucher = 100 })) ∷ BasketAct.Emptied 7 ∷ []
+  pub baskets : acts.baskets
+      ≡ BasketAct.Left 7 mug (Some (record { quantity = 2; voucher = 100 })) ∷ BasketAct.Emptied 7 ∷ []
   pub stocked : acts.stocked ≡ record { key = mug; pieces = 3 } ∷ []
   pub cards : acts.cards ≡ record { customer = 7; limit = 10000 } ∷ []
   pub whole : acts.whole ≡ base_checkout ∷ []
@@ -95,15 +105,23 @@ served customer = record no_acts {
 pub record HasServedTables : Type 0 where
   pub order_of_own : status_by (served 7) (id 5) ≡ Some status.Delivered
   pub order_of_other : status_by (served 8) (id 5) ≡ Some status.Shipped
-  pub package_of_own : waiting_by (served 7).whole (served 7).items ≡ []
-  pub package_of_other : waiting_by (served 8).whole (served 8).items ≡ []
+  pub package_of_own : packages_waiting (served 7).whole (served 7).items ≡ []
+  pub package_of_other : packages_waiting (served 8).whole (served 8).items ≡ []
 
 pub record BaseExamples : Type 0 where
   pub reply : reply_at base (id 5) ≡ Some (reply.Whole 1950)
   pub whole : IsWhole base (id 5) 1950
   pub acts : HasBaseActs (acts_of base)
-  pub tables : HasBaseTables (tables_of base)
+  pub tables : HasBaseTables (tables_at_end base)
   pub book : HasBaseTables (book (acts_of base))
   pub served : HasServedTables
-  pub counts : counts_of base
-      ≡ record { requests = 5; whole = 1; undone = 0; outstanding = 0; confirmed = 1950; packages = 1; delivered = 0 }
+  pub counts : summary_of base
+      ≡ record {
+        requests = 5;
+        whole = 1;
+        undone = 0;
+        outstanding = 0;
+        confirmed = 1950;
+        packages = 1;
+        delivered = 0;
+      }

@@ -1,7 +1,9 @@
 -- A schedule in which events are offered before what they rest on was taken.
-use Rattle.std.specs.Prelude.{◌≡◌, List, [], ◌∷◌, ◌++◌, Some}
+use Rattle.std.specs.Prelude.{◌≡◌, List, [], ◌∷◌, Some}
 use Rattle.market_events.specs.declared.events.Offer.TheVariants.{Take, Old, NotReady}
-use Rattle.market_events.specs.declared.links.Link.TheVariants.{Service, Asked, Told}
+use Rattle.market_events.specs.declared.links.Link.TheVariants.{Asked, Told}
+use Rattle.market_events.specs.declared.links.TheConstants.{PRODUCT_TO_CART, PRODUCT_TO_STOCK, CART_TO_STOCK}
+use Rattle.market_events.specs.declared.links.TheConstants.{STOCK_TO_CART}
 use Rattle.market_events.specs.declared.replies.Reply.TheVariants as reply
 use Rattle.market_events.specs.declared.replies.UndoneRule.TheVariants as undone
 use Rattle.market_events.specs.declared.requests.Ask.TheVariants as ask
@@ -20,14 +22,14 @@ causal_steps =
     give 1 create ∷ offer (Asked 7 1) 1 ∷ offer (Told 1 7) 1 ∷ give 2 (ask.Line 7 mug 1 0)
     ∷ offer (Asked 7 0) 1
     -- once it took the change, it takes the line
-    ∷ offer (Service 0) 1 ∷ offer (Asked 7 0) 1 ∷ offer (Told 0 7) 1 ∷ give 3 (ask.Checkout 7)
+    ∷ offer PRODUCT_TO_CART 1 ∷ offer (Asked 7 0) 1 ∷ offer (Told 0 7) 1 ∷ give 3 (ask.Checkout 7)
     ∷ offer (Asked 7 0) 2
     -- stock takes the checkout's lines once it took the change, and once only
-    ∷ offer (Service 2) 1
-    ∷ offer (Service 1) 1 ∷ offer (Service 2) 1 ∷ offer (Service 2) 1
-    ∷ offer (Service 2) 2
+    ∷ offer CART_TO_STOCK 1
+    ∷ offer PRODUCT_TO_STOCK 1 ∷ offer CART_TO_STOCK 1 ∷ offer CART_TO_STOCK 1
+    ∷ offer CART_TO_STOCK 2
     -- there are no pieces
-    ∷ offer (Service 3) 1 ∷ offer (Told 0 7) 2 ∷ []
+    ∷ offer STOCK_TO_CART 1 ∷ offer (Told 0 7) 2 ∷ []
 
 abbrev pub causal_outcomes : List Outcome
 causal_outcomes =

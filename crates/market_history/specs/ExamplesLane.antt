@@ -1,12 +1,10 @@
 -- What a lane does with requests that it is given.
 use Rattle.std.specs.Prelude.{◌≡◌, List, [], ◌∷◌, Some, None}
-use Rattle.market_events.specs.declared.bodies.Body.TheVariants as body
 use Rattle.market_events.specs.declared.events.Entry.{Entry}
-use Rattle.market_events.specs.declared.links.Link.TheVariants.{Asked, Told}
 use Rattle.market_events.specs.declared.replies.Reply.TheVariants as reply
 use Rattle.market_events.specs.declared.requests.Ask.TheVariants as ask
 use Rattle.market_history.specs.declared.schedule.Give.TheVariants as gives
-use Rattle.market_history.specs.Examples.{mug, id, request, event, given, taken, made, answered, create}
+use Rattle.market_history.specs.Examples.{mug, id, request, given, taken, made, answered, create}
 use Rattle.market_history.specs.ExamplesCreate.{asked, to_lane}
 use Rattle.market_history.specs.Once.{give_with, reply_of}
 
@@ -15,7 +13,8 @@ abbrev pub lane_asked : List Entry
 lane_asked = given 1 (request 1 create) ∷ made asked ∷ []
 
 abbrev pub lane_answered : List Entry
-lane_answered = given 1 (request 1 create) ∷ made asked ∷ taken 7 to_lane ∷ answered 8 (id 1) (reply.Created 1) ∷ []
+lane_answered =
+    given 1 (request 1 create) ∷ made asked ∷ taken 7 to_lane ∷ answered 8 (id 1) (reply.Created 1) ∷ []
 
 pub record LaneExamples : Type 0 where
   -- a new request is asked where the lane has room

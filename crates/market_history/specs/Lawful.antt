@@ -1,5 +1,5 @@
--- Lawful histories: each journal is a list of blocks, with the numbers, clocks and pasts that are due, each block began when
--- it could, and what was taken on a link is what was made on it, up to some point.
+-- Lawful histories: each journal is a list of blocks, with the numbers, clocks and pasts that are due, each
+-- block began when it could, and what was taken on a link is what was made on it, up to some point.
 use Rattle.std.specs.Prelude.{◌≡◌, ℕ, ◌<◌, true, List, [], length}
 use Rattle.market_events.specs.declared.events.Entry.{Entry}
 use Rattle.market_events.specs.declared.events.What.{What}
@@ -11,20 +11,23 @@ use Rattle.market_events.specs.Links.{IsLink, lane_node, sender_of, receiver_of}
 use Rattle.market_events.specs.Offers.{offer_of}
 use Rattle.market_events.specs.Requests.{lane_of}
 use Rattle.market_events.specs.WellFormed.{IsRequest}
+use Rattle.market_events.specs.declared.nodes.TheConstants.{NODES}
 use Rattle.market_history.specs.declared.schedule.Give.TheVariants as give
 use Rattle.market_history.specs.Blocks.{parts_of, inputs_of, blocks_after}
 use Rattle.market_history.specs.Causality.{HasPasts, events_taken}
-use Rattle.market_history.specs.Histories.{Histories, nodes, journal_at}
+use Rattle.market_history.specs.Histories.{Histories, journal_at}
 use Rattle.market_history.specs.Once.{give_of}
 use Rattle.market_history.specs.Sent.{sent, got, IsNumbered, IsMatchedOn}
 use Rattle.market_history.specs.Stamps.{EachAfter, IsStamped}
 
--- it may come to the node after these entries: a request to its own lane, which asks it; or an event to its receiver, by a
--- link that can carry it, where it is due. What a node makes is bound by the blocks alone
+-- it may come to the node after these entries: a request to its own lane, which asks it; or an event to its
+-- receiver, by a link that can carry it, where it is due. What a node makes is bound by the blocks alone
 abbrev pub IsReadyAfter : ℕ → List Entry → What → Type 0
-IsReadyAfter n before (Given request) = IsRequest request × (lane_node (lane_of request.id) ≡ n) × (give_of before request ≡ give.Asked)
+IsReadyAfter n before (Given request) =
+    IsRequest request × (lane_node (lane_of request.id) ≡ n) × (give_of before request ≡ give.Asked)
 IsReadyAfter n before (Taken event) =
-    IsLink event.link × (receiver_of event.link ≡ n) × (carries event.link event.body ≡ true) × (offer_of n (events_taken before) event ≡ Take)
+    IsLink event.link × (receiver_of event.link ≡ n) × (carries event.link event.body ≡ true)
+    × (offer_of n (events_taken before) event ≡ Take)
 IsReadyAfter n before (Made event) = Unit {0}
 IsReadyAfter n before (Answered id reply) = Unit {0}
 
@@ -47,9 +50,10 @@ pub record IsLawfulAt (n : ℕ) (entries : List Entry) : Type 0 where
 
 -- what was taken on each link is what was made on it, up to some point
 abbrev pub IsMatched : Histories → Type 0
-IsMatched h = (link : Link) → IsLink link → IsMatchedOn link (journal_at h (sender_of link)) (journal_at h (receiver_of link))
+IsMatched h = (link : Link) → IsLink link
+    → IsMatchedOn link (journal_at h (sender_of link)) (journal_at h (receiver_of link))
 
 pub record IsLawful (h : Histories) : Type 0 where
-  pub each : length h ≡ nodes
+  pub each : length h ≡ NODES
   pub matched : IsMatched h
-  pub lawful : (n : ℕ) → n < nodes → IsLawfulAt n (journal_at h n)
+  pub lawful : (n : ℕ) → n < NODES → IsLawfulAt n (journal_at h n)

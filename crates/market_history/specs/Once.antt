@@ -1,5 +1,7 @@
--- Each request acts once: what a lane keeps, what it does with a request that it is given, and the answer to a request.
-use Rattle.std.specs.Prelude.{ℕ, Bool, false, not, ◌&&◌, is_some, is_none, nat_lt, Option, Some, None, List, [], ◌∷◌, ◌++◌, length, find, take, filter, ◌==◌, if◌then◌else◌}
+-- Each request acts once: what a lane keeps, what it does with a request that it is given, and the answer to
+-- a request.
+use Rattle.std.specs.Prelude.{ℕ, Bool, false, not, ◌&&◌, is_some, is_none, nat_lt, Option, Some, None, List}
+use Rattle.std.specs.Prelude.{[], ◌∷◌, ◌++◌, length, find, take, filter, ◌==◌, if◌then◌else◌}
 use Rattle.std.specs.List.{filter_map, list_any}
 use Rattle.market_amounts.specs.declared.keys.RequestId.{RequestId}
 use Rattle.market_events.specs.declared.events.Entry.{Entry}
@@ -58,8 +60,8 @@ abbrev pub differs : Option Request → Request → Bool
 differs None r = false
 differs (Some kept) r = not (same_ask kept.ask r.ask)
 
--- what is done with a request, by what is kept with its id, whether that is answered, whether the lane waits, and whether
--- it has room
+-- what is done with a request, by what is kept with its id, whether that is answered, whether the lane waits,
+-- and whether it has room
 abbrev pub give_by : Option Request → Bool → Bool → Bool → Request → Give
 give_by kept answered waiting room r =
     if differs kept r then give.Differs
@@ -84,10 +86,11 @@ kept_by h lane = requests_given (journal_at h (lane_node lane))
 -- each request whose id does not occur earlier
 abbrev pub once_after : List Request → List Request → List Request
 once_after front [] = []
-once_after front (r ∷ rs) = if has_id front r.id then once_after (front ++ r ∷ []) rs else r ∷ once_after (front ++ r ∷ []) rs
+once_after front (r ∷ rs) =
+    if has_id front r.id then once_after (front ++ r ∷ []) rs else r ∷ once_after (front ++ r ∷ []) rs
 
--- the requests that a lane keeps once it was given these too: its own, each whose id does not occur earlier, and of all the
--- first, as many as it can keep
+-- the requests that a lane keeps once it was given these too: its own, each whose id does not occur earlier,
+-- and of all the first, as many as it can keep
 abbrev pub kept_with : Histories → ℕ → List Request → List Request
 kept_with h lane given =
     take most_kept (once_after [] (kept_by h lane ++ filter (λ (r : Request). lane_of r.id == lane) given))
@@ -100,7 +103,7 @@ abbrev pub answer_by : Option Request → Option Reply → Request → Option Re
 answer_by None reply r = Some (Refused LaneFull)
 answer_by (Some kept) reply r = if same_ask kept.ask r.ask then reply else Some (Refused RequestDiffers)
 
--- the answer to a request: the kept reply where its id is kept with its content, `request_differs` where it is kept with
--- other content, and `lane_full` where it is not kept
+-- the answer to a request: the kept reply where its id is kept with its content, `request_differs` where it
+-- is kept with other content, and `lane_full` where it is not kept
 abbrev pub answer_for : Histories → Request → Option Reply
 answer_for h r = answer_by (with_id r.id (kept_by h (lane_of r.id))) (reply_at h r.id) r

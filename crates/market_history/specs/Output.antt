@@ -1,5 +1,6 @@
 -- What histories come to, and what a run writes of them.
-use Rattle.std.specs.Prelude.{ℕ, Bool, true, false, ◌+◌, Option, Some, None, List, [], ◌∷◌, ◌++◌, length, map, codes}
+use Rattle.std.specs.Prelude.{ℕ, Bool, true, false, Option, Some, None, List, [], ◌∷◌, ◌++◌, length}
+use Rattle.std.specs.Prelude.{codes}
 use Rattle.std.specs.Fmt.{decimal}
 use Rattle.std.specs.List.{count_by, filter_map, flat_map, range_with_len, sum_by}
 use Rattle.market_amounts.specs.declared.keys.RequestId.{RequestId}
@@ -8,13 +9,14 @@ use Rattle.market_events.specs.declared.bodies.Body.TheVariants as body
 use Rattle.market_events.specs.declared.events.Entry.{Entry}
 use Rattle.market_events.specs.declared.events.What.{What}
 use Rattle.market_events.specs.declared.events.What.TheVariants.{Given, Taken, Made, Answered}
-use Rattle.market_events.specs.declared.links.Link.TheVariants.{Service}
+use Rattle.market_events.specs.declared.lanes.TheConstants.{LANES}
+use Rattle.market_events.specs.declared.links.TheConstants.{PAYMENT_TO_STOCK, PAYMENT_TO_SHIPMENT}
+use Rattle.market_events.specs.declared.links.TheConstants.{SHIPMENT_TO_CUSTOMER}
 use Rattle.market_events.specs.declared.replies.Reply.{Reply}
 use Rattle.market_events.specs.declared.replies.Reply.TheVariants as reply
 use Rattle.market_events.specs.declared.requests.Request.{Request}
 use Rattle.market_events.specs.Links.{lane_node, payment_node, shipment_node}
 use Rattle.market_events.specs.Orders.{items_in}
-use Rattle.market_events.specs.Requests.{lanes}
 use Rattle.market_events.specs.Shipments.{packages_in}
 use Rattle.market_events.specs.Texts.{text_of_reply}
 use Rattle.market_history.specs.declared.schedule.Summary.{Summary}
@@ -46,32 +48,32 @@ replies_of h lane = filter_map (λ (x : Entry). answered_in x.what) (journal_at 
 
 -- over all lanes
 abbrev pub over_lanes : (ℕ → ℕ) → ℕ
-over_lanes count = sum_by count (range_with_len 0 lanes)
+over_lanes count = sum_by count (range_with_len 0 LANES)
 
-abbrev pub total_in : Body → ℕ
-total_in (body.Confirmed checkout customer lines total) = total
-total_in other = 0
+abbrev pub total_confirmed : Body → ℕ
+total_confirmed (body.Confirmed checkout customer lines total) = total
+total_confirmed other = 0
 
--- the requests that are kept, the checkouts answered `whole` and `undone`, the events outstanding, the totals paid, and the
--- packages, and those of them that were delivered
-abbrev pub counts_of : Histories → Summary
-counts_of h = record {
+-- the requests that are kept, the checkouts answered `whole` and `undone`, the events outstanding, the totals
+-- paid, and the packages, and those of them that were delivered
+abbrev pub summary_of : Histories → Summary
+summary_of h = record {
   requests = over_lanes (λ lane. length (kept_by h lane));
   whole = over_lanes (λ lane. count_by says_whole (replies_of h lane));
   undone = over_lanes (λ lane. count_by says_undone (replies_of h lane));
   outstanding = sum_by (λ link. length (outstanding h link)) all_links;
-  confirmed = sum_by total_in (bodies_of (sent (Service 8) (journal_at h payment_node)));
-  packages = length (flat_map packages_in (bodies_of (got (Service 10) (journal_at h shipment_node))));
-  delivered = length (flat_map items_in (bodies_of (sent (Service 15) (journal_at h shipment_node))));
+  confirmed = sum_by total_confirmed (bodies_of (sent PAYMENT_TO_STOCK (journal_at h payment_node)));
+  packages = length (flat_map packages_in (bodies_of (got PAYMENT_TO_SHIPMENT (journal_at h shipment_node))));
+  delivered = length (flat_map items_in (bodies_of (sent SHIPMENT_TO_CUSTOMER (journal_at h shipment_node))));
 }
 
 -- the text of an id and the space behind it
-abbrev pub id_text : RequestId → List ℕ
-id_text id = decimal id.caller ++ 46 ∷ (decimal id.number ++ 32 ∷ [])
+abbrev pub id_and_space : RequestId → List ℕ
+id_and_space id = decimal id.caller ++ 46 ∷ (decimal id.number ++ 32 ∷ [])
 
 -- the line of an answer
 abbrev pub line_of_answer : RequestId → Reply → List ℕ
-line_of_answer id r = id_text id ++ (text_of_reply r ++ 10 ∷ [])
+line_of_answer id r = id_and_space id ++ (text_of_reply r ++ 10 ∷ [])
 
 abbrev pub line_if : RequestId → Option Reply → List ℕ
 line_if id None = []
@@ -93,8 +95,9 @@ drive_lines s =
 
 -- the output of a run: the answer to each given request, and the lines that count
 abbrev pub run_output : Histories → List Request → List ℕ
-run_output h given = flat_map (λ (r : Request). line_if r.id (answer_for h r)) given ++ run_lines (counts_of h)
+run_output h given =
+    flat_map (λ (r : Request). line_if r.id (answer_for h r)) given ++ run_lines (summary_of h)
 
 -- the output of a drive
 abbrev pub drive_output : Histories → List ℕ
-drive_output h = drive_lines (counts_of h)
+drive_output h = drive_lines (summary_of h)

@@ -1,5 +1,6 @@
 -- Schedules: steps that change histories, each with its outcome, and the schedule that histories came by.
-use Rattle.std.specs.Prelude.{◌≡◌, ℕ, ◌==◌, Bool, true, false, ◌&&◌, ◌||◌, nat_lt, Option, Some, None, List, [], ◌∷◌, ◌++◌, find, fold, map, if◌then◌else◌, cond}
+use Rattle.std.specs.Prelude.{ℕ, ◌==◌, Bool, ◌&&◌, ◌||◌, nat_lt, Option, Some, None, List}
+use Rattle.std.specs.Prelude.{[], ◌∷◌, find, fold, map, if◌then◌else◌}
 use Rattle.std.specs.List.{filter_map, flat_map, range_with_len}
 use Rattle.market_events.specs.declared.events.Entry.{Entry}
 use Rattle.market_events.specs.declared.events.Event.{Event}
@@ -8,6 +9,7 @@ use Rattle.market_events.specs.declared.events.Offer.TheVariants as offer
 use Rattle.market_events.specs.declared.events.What.{What}
 use Rattle.market_events.specs.declared.events.What.TheVariants.{Given, Taken, Made, Answered}
 use Rattle.market_events.specs.declared.links.Link.{Link}
+use Rattle.market_events.specs.declared.nodes.TheConstants.{NODES}
 use Rattle.market_events.specs.declared.requests.Request.{Request}
 use Rattle.market_events.specs.Links.{IsLink, lane_node, sender_of, receiver_of}
 use Rattle.market_events.specs.Offers.{offer_of}
@@ -21,7 +23,7 @@ use Rattle.market_history.specs.declared.schedule.Outcome.{Outcome}
 use Rattle.market_history.specs.declared.schedule.Outcome.TheVariants as outcome
 use Rattle.market_history.specs.Blocks.{Arrival, grow}
 use Rattle.market_history.specs.Causality.{events_taken}
-use Rattle.market_history.specs.Histories.{Histories, nodes, journal_at, with_journal}
+use Rattle.market_history.specs.Histories.{Histories, journal_at, with_journal}
 use Rattle.market_history.specs.Once.{give_of}
 use Rattle.market_history.specs.Sent.{sent}
 
@@ -33,14 +35,17 @@ with_block h n arrival = with_journal h n (grow n (journal_at h n) arrival)
 abbrev pub event_at : Histories → Link → ℕ → Option Event
 event_at h link number = find (λ (e : Event). e.number == number) (sent link (journal_at h (sender_of link)))
 
--- what comes of an event that is offered to its receiver, and what comes of a request that is given to its lane
+-- what comes of an event that is offered to its receiver, and what comes of a request that is given to its
+-- lane
 abbrev pub offered : Histories → Event → Offer
-offered h event = offer_of (receiver_of event.link) (events_taken (journal_at h (receiver_of event.link))) event
+offered h event =
+    offer_of (receiver_of event.link) (events_taken (journal_at h (receiver_of event.link))) event
 
 abbrev pub gave : Histories → Request → Give
 gave h r = give_of (journal_at h (lane_node (lane_of r.id))) r
 
--- a request that is asked, and an event that is taken, add a block; any other leaves the histories as they are
+-- a request that is asked, and an event that is taken, add a block; any other leaves the histories as they
+-- are
 abbrev pub after_give : Histories → Request → Give → Histories
 after_give h r give.Asked = with_block h (lane_node (lane_of r.id)) (Arrival.Gives r)
 after_give h r other = h
@@ -121,6 +126,7 @@ put_in m (x ∷ xs) = if goes_before m x then m ∷ x ∷ xs else x ∷ put_in m
 abbrev pub in_order : List Moved → List Moved
 in_order moves = fold (λ ordered m. put_in m ordered) [] moves
 
--- the schedule that the histories came by: the requests given and the events taken, in the order of clock and node
+-- the schedule that the histories came by: the requests given and the events taken, in the order of clock and
+-- node
 unfoldable pub merged : Histories → List Step
-merged h = map (λ (m : Moved). m.step) (in_order (flat_map (moves_at h) (range_with_len 0 nodes)))
+merged h = map (λ (m : Moved). m.step) (in_order (flat_map (moves_at h) (range_with_len 0 NODES)))

@@ -13,11 +13,11 @@ abbrev pub event_on : Link → Event → Option Event
 event_on link event = if same_link event.link link then Some event else None
 
 -- the event that was made on the link, where one was
-abbrev pub made_on : Link → What → Option Event
-made_on link (Given request) = None
-made_on link (Taken event) = None
-made_on link (Made event) = event_on link event
-made_on link (Answered id reply) = None
+abbrev pub event_made_on : Link → What → Option Event
+event_made_on link (Given request) = None
+event_made_on link (Taken event) = None
+event_made_on link (Made event) = event_on link event
+event_made_on link (Answered id reply) = None
 
 -- the event that was taken on the link, where one was
 abbrev pub got_on : Link → What → Option Event
@@ -28,7 +28,7 @@ got_on link (Answered id reply) = None
 
 -- the events that were made on the link, in order
 abbrev pub sent : Link → List Entry → List Event
-sent link entries = filter_map (λ (x : Entry). made_on link x.what) entries
+sent link entries = filter_map (λ (x : Entry). event_made_on link x.what) entries
 
 -- the events that were taken on the link, in order
 abbrev pub got : Link → List Entry → List Event

@@ -1,5 +1,7 @@
--- The sequential market: requests answered one after the other by the tables, each with all its effects at once.
-use Rattle.std.specs.Prelude.{ℕ, ◌+◌, nat_le, nat_lt, List, [], ◌∷◌, ◌++◌, Option, Some, None, option_map, filter_map, find, if◌then◌else◌, unwrap_or}
+-- The sequential market: requests answered one after the other by the tables, each with all its effects at
+-- once.
+use Rattle.std.specs.Prelude.{ℕ, ◌+◌, nat_le, nat_lt, List, [], ◌∷◌, ◌++◌, Option, Some, None, option_map}
+use Rattle.std.specs.Prelude.{filter_map, find, if◌then◌else◌, unwrap_or}
 use Rattle.std.specs.List.{list_any, flat_map}
 use Rattle.market_amounts.specs.declared.keys.ProductKey.{ProductKey}
 use Rattle.market_amounts.specs.declared.keys.RequestId.{RequestId}
@@ -8,7 +10,7 @@ use Rattle.market_events.specs.declared.bodies.Item.{Item}
 use Rattle.market_events.specs.declared.bodies.PayRule.{PayRule}
 use Rattle.market_events.specs.declared.bodies.PayRule.TheVariants as pay
 use Rattle.market_events.specs.declared.bodies.PricedLine.{PricedLine}
-use Rattle.market_events.specs.declared.links.Link.TheVariants.{Service}
+use Rattle.market_events.specs.declared.links.TheConstants.{PRODUCT_TO_STOCK}
 use Rattle.market_events.specs.declared.replies.OrderStatus.TheVariants as status
 use Rattle.market_events.specs.declared.replies.Reply.{Reply}
 use Rattle.market_events.specs.declared.replies.Reply.TheVariants as reply
@@ -29,15 +31,20 @@ use Rattle.market_events.specs.Shipments.{delivered_of, shipment_asked}
 use Rattle.market_events.specs.Steps.{Sending, body_on}
 use Rattle.market_events.specs.Stocks.{Reservation, stock_asked}
 use Rattle.market_events.specs.WellFormed.{total_of}
-use Rattle.market_history.specs.Acts.{Acts, BasketAct, StockAct, no_acts, basket_by, lines_of, limit_by, paid_by, waiting_by, on_hand_by, product_table, cart_table, stock_table, order_table, payment_table, shipment_table, customer_table, seller_table}
+use Rattle.market_history.specs.Acts.{Acts, BasketAct, StockAct, basket_by, lines_of, limit_by}
+use Rattle.market_history.specs.Acts.{on_hand_by, product_table, cart_table, stock_table, order_table}
+use Rattle.market_history.specs.Acts.{payment_table, shipment_table, customer_table, seller_table}
+use Rattle.market_history.specs.Acts.{paid_for_checkouts, packages_waiting}
 
 -- what a request other than a checkout is answered by its service's table
 abbrev pub rows_for : Acts → RequestId → Ask → List Sending
-rows_for acts id (ask.Create key price freight) = product_asked (product_table acts) id (ask.Create key price freight)
+rows_for acts id (ask.Create key price freight) =
+    product_asked (product_table acts) id (ask.Create key price freight)
 rows_for acts id (ask.Price key price) = product_asked (product_table acts) id (ask.Price key price)
 rows_for acts id (ask.Delete key) = product_asked (product_table acts) id (ask.Delete key)
 rows_for acts id (ask.View key) = cart_asked (cart_table acts) id (ask.View key)
-rows_for acts id (ask.Line customer key quantity voucher) = cart_asked (cart_table acts) id (ask.Line customer key quantity voucher)
+rows_for acts id (ask.Line customer key quantity voucher) =
+    cart_asked (cart_table acts) id (ask.Line customer key quantity voucher)
 rows_for acts id (ask.Remove customer key) = cart_asked (cart_table acts) id (ask.Remove customer key)
 rows_for acts id (ask.Checkout customer) = []
 rows_for acts id (ask.Stock key pieces) = stock_asked (stock_table acts) id (ask.Stock key pieces)
@@ -54,8 +61,8 @@ reply_told (link, body.Told id r) = Some r
 reply_told other = None
 
 -- the reply among what is answered: a request has one
-abbrev pub reply_in : List Sending → Reply
-reply_in rows = unwrap_or (last_some reply_told rows) (reply.Refused rule.Unknown)
+abbrev pub reply_among : List Sending → Reply
+reply_among rows = unwrap_or (last_some reply_told rows) (reply.Refused rule.Unknown)
 
 -- what a checkout comes to: it is stopped at the cart, it is short of pieces, it is not paid, or it is whole
 pub data Verdict : Type 0 where
@@ -65,13 +72,14 @@ pub data Verdict : Type 0 where
   Whole : Verdict
 
 -- the lines of a customer's basket with the prices of now
-abbrev pub lines_at : Acts → ℕ → List PricedLine
-lines_at acts customer = filter_map (priced (copy_of acts.changes)) (basket_by acts.baskets customer)
+abbrev pub basket_priced : Acts → ℕ → List PricedLine
+basket_priced acts customer = filter_map (priced (copy_of acts.changes)) (basket_by acts.baskets customer)
 
 -- the least product of which fewer pieces are on hand
 abbrev pub first_short : (ProductKey → ℕ) → List PricedLine → Option ProductKey
 first_short on_hand lines =
-    option_map (λ (line : PricedLine). line.key) (find (λ (line : PricedLine). nat_lt (on_hand line.key) line.quantity) lines)
+    option_map (λ (line : PricedLine). line.key)
+    (find (λ (line : PricedLine). nat_lt (on_hand line.key) line.quantity) lines)
 
 -- by the card
 abbrev pub verdict_of_card : Option ℕ → ℕ → Verdict
@@ -84,16 +92,19 @@ verdict_of_stock (Some key) limit due = Short key
 verdict_of_stock None limit due = verdict_of_card limit due
 
 -- by the basket and the least product in it that is not live, then by what is on hand, and then by the card
-abbrev pub verdict_of_basket : List (ProductKey × Held) → Option ProductKey → Option ProductKey → Option ℕ → ℕ → Verdict
+abbrev pub verdict_of_basket : List (ProductKey × Held) → Option ProductKey → Option ProductKey → Option ℕ → ℕ
+    → Verdict
 verdict_of_basket [] first short limit due = Stopped undone.CartEmpty
 verdict_of_basket (e ∷ es) (Some key) short limit due = Stopped (undone.Gone key)
 verdict_of_basket (e ∷ es) None short limit due = verdict_of_stock short limit due
 
 abbrev pub verdict : Acts → ℕ → Verdict
 verdict acts customer =
-    verdict_of_basket (basket_by acts.baskets customer) (first_gone (copy_of acts.changes) (basket_by acts.baskets customer))
-    (first_short (on_hand_by acts) (lines_at acts customer))
-    (limit_by acts.cards customer) (paid_by acts.whole customer + total_of (lines_at acts customer))
+    verdict_of_basket (basket_by acts.baskets customer)
+    (first_gone (copy_of acts.changes) (basket_by acts.baskets customer))
+    (first_short (on_hand_by acts) (basket_priced acts customer))
+    (limit_by acts.cards customer) (paid_for_checkouts acts.whole customer
+    + total_of (basket_priced acts customer))
 
 abbrev pub reply_to_verdict : Verdict → ℕ → Reply
 reply_to_verdict (Stopped rule) total = reply.Undone rule
@@ -102,32 +113,37 @@ reply_to_verdict (Unpaid rule) total = reply.Undone (undone_by_payment rule)
 reply_to_verdict Whole total = reply.Whole total
 
 abbrev pub reply_to_ask : Acts → RequestId → Ask → Reply
-reply_to_ask acts id (ask.Checkout customer) = reply_to_verdict (verdict acts customer) (total_of (lines_at acts customer))
-reply_to_ask acts id other = reply_in (rows_for acts id other)
+reply_to_ask acts id (ask.Checkout customer) =
+    reply_to_verdict (verdict acts customer) (total_of (basket_priced acts customer))
+reply_to_ask acts id other = reply_among (rows_for acts id other)
 
 abbrev pub sequential_reply : Acts → Request → Reply
 sequential_reply acts r = reply_to_ask acts r.id r.ask
 
 -- the changes that are told to stock, as they are told to the cart
 abbrev pub changes_in : List Sending → List ProductChange
-changes_in rows = filter_map change_in (filter_map (body_on (Service 1)) rows)
+changes_in rows = filter_map change_in (filter_map (body_on PRODUCT_TO_STOCK) rows)
 
 abbrev pub with_changes : Acts → List Sending → Acts
 with_changes acts rows = record acts { changes = acts.changes ++ changes_in rows }
 
 -- with one more act, unless a refusal is told
 abbrev pub with_left : Acts → BasketAct → List Sending → Acts
-with_left acts act rows = record acts { baskets = if list_any is_refusal rows then acts.baskets else acts.baskets ++ act ∷ [] }
+with_left acts act rows =
+    record acts { baskets = if list_any is_refusal rows then acts.baskets else acts.baskets ++ act ∷ [] }
 
 abbrev pub with_stocked : Acts → StockAct → List Sending → Acts
-with_stocked acts act rows = record acts { stocked = if list_any is_refusal rows then acts.stocked else acts.stocked ++ act ∷ [] }
+with_stocked acts act rows =
+    record acts { stocked = if list_any is_refusal rows then acts.stocked else acts.stocked ++ act ∷ [] }
 
 -- with a checkout: its basket is empty once it was sent on; all its lines get each status before the next one
 abbrev pub entries_unpaid : RequestId → List PricedLine → ℕ → List SellerChange
-entries_unpaid id lines seller = marked seller id status.Invoiced lines ++ marked seller id status.Cancelled lines
+entries_unpaid id lines seller =
+    marked seller id status.Invoiced lines ++ marked seller id status.Cancelled lines
 
 abbrev pub entries_whole : RequestId → List PricedLine → ℕ → List SellerChange
-entries_whole id lines seller = marked seller id status.Invoiced lines ++ (marked seller id status.Paid lines ++ marked seller id status.Shipped lines)
+entries_whole id lines seller = marked seller id status.Invoiced lines
+    ++ (marked seller id status.Paid lines ++ marked seller id status.Shipped lines)
 
 abbrev pub with_checkout : Acts → Reservation → Verdict → Acts
 with_checkout acts r (Stopped rule) = record acts { undone = acts.undone ++ (r.checkout, rule) ∷ [] }
@@ -150,7 +166,8 @@ with_checkout acts r Whole = record acts {
 -- with a delivery: the entry of each item's line, where it is of the seller
 abbrev pub entry_delivered : Acts → ℕ → Item → List SellerChange
 entry_delivered acts seller item =
-    marked seller item.checkout status.Delivered (lines_with_keys (lines_of (acts.whole ++ acts.unpaid) item.checkout) (item.key ∷ []))
+    marked seller item.checkout status.Delivered (lines_with_keys (lines_of (acts.whole
+    ++ acts.unpaid) item.checkout) (item.key ∷ []))
 
 abbrev pub with_items : Acts → List Item → Acts
 with_items acts items = record acts {
@@ -160,21 +177,26 @@ with_items acts items = record acts {
 
 -- what a request leaves
 abbrev pub acts_asked : Acts → RequestId → Ask → Acts
-acts_asked acts id (ask.Create key price freight) = with_changes acts (rows_for acts id (ask.Create key price freight))
+acts_asked acts id (ask.Create key price freight) =
+    with_changes acts (rows_for acts id (ask.Create key price freight))
 acts_asked acts id (ask.Price key price) = with_changes acts (rows_for acts id (ask.Price key price))
 acts_asked acts id (ask.Delete key) = with_changes acts (rows_for acts id (ask.Delete key))
 acts_asked acts id (ask.View key) = acts
 acts_asked acts id (ask.Line customer key quantity voucher) =
     with_left acts (BasketAct.Left customer key (Some (record { quantity = quantity; voucher = voucher })))
     (rows_for acts id (ask.Line customer key quantity voucher))
-acts_asked acts id (ask.Remove customer key) = with_left acts (BasketAct.Left customer key None) (rows_for acts id (ask.Remove customer key))
+acts_asked acts id (ask.Remove customer key) =
+    with_left acts (BasketAct.Left customer key None) (rows_for acts id (ask.Remove customer key))
 acts_asked acts id (ask.Checkout customer) =
-    with_checkout acts (record { checkout = id; customer = customer; lines = lines_at acts customer }) (verdict acts customer)
-acts_asked acts id (ask.Stock key pieces) = with_stocked acts (record { key = key; pieces = pieces }) (rows_for acts id (ask.Stock key pieces))
+    with_checkout acts (record { checkout = id; customer = customer; lines = basket_priced acts customer })
+    (verdict acts customer)
+acts_asked acts id (ask.Stock key pieces) =
+    with_stocked acts (record { key = key; pieces = pieces }) (rows_for acts id (ask.Stock key pieces))
 acts_asked acts id (ask.Level key) = acts
 acts_asked acts id (ask.Order checkout) = acts
-acts_asked acts id (ask.Card customer limit) = record acts { cards = acts.cards ++ record { customer = customer; limit = limit } ∷ [] }
-acts_asked acts id ask.Deliver = with_items acts (delivered_of (waiting_by acts.whole acts.items))
+acts_asked acts id (ask.Card customer limit) =
+    record acts { cards = acts.cards ++ record { customer = customer; limit = limit } ∷ [] }
+acts_asked acts id ask.Deliver = with_items acts (delivered_of (packages_waiting acts.whole acts.items))
 acts_asked acts id (ask.Customer customer) = acts
 acts_asked acts id (ask.Dashboard seller) = acts
 

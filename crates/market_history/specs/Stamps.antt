@@ -19,7 +19,8 @@ clock_in (Some entry) = entry.clock
 abbrev pub clock_before : List Entry → ℕ
 clock_before entries = clock_in (last_or None entries)
 
--- the clock at which it happens, after this one: above it, and for an event that is taken above the event's clock too
+-- the clock at which it happens, after this one: above it, and for an event that is taken above the event's
+-- clock too
 abbrev pub stamp_of : ℕ → What → ℕ
 stamp_of before (Given request) = before + 1
 stamp_of before (Taken event) = max before event.clock + 1

@@ -5,7 +5,8 @@ ghost use Rattle.market_history.specs.ExamplesCausal.{CausalExamples};
 ghost use Rattle.market_history.specs.ExamplesCreate.{CreateExamples};
 ghost use Rattle.market_history.specs.ExamplesLane.{LaneExamples};
 
-/// The histories that one request to create a product leaves: clocks, numbers and pasts, and the schedule by which they came.
+/// The histories that one request to create a product leaves: clocks, numbers and pasts, and the schedule by
+/// which they came.
 #[tactic(auto, using(crate::proofs::ExamplesCreate::create_examples))]
 pub fn create_examples()
     ensures { CreateExamples }

@@ -2,14 +2,16 @@
 
 ghost use Rattle.std.specs.Prelude.{◌≡◌, map};
 ghost use Rattle.std.specs.List.{range_with_len};
-ghost use Rattle.market_history.specs.Histories.{nodes, journal_at, IsHistories};
+ghost use Rattle.market_events.specs.declared.nodes.TheConstants.{NODES};
+ghost use Rattle.market_history.specs.Histories.{journal_at, IsHistories};
 ghost use Rattle.market_history.specs.Journals.{JournalState};
 
 use crate::journals::Journal;
 use market_events::Node;
 use std::marker::Model;
 
-/// The journals of the nodes 0 to 23. Contracts see the list of the nodes' entries, each of which may stand at its place.
+/// The journals of the nodes 0 to 23. Contracts see the list of the nodes' entries, each of which may stand
+/// at its place.
 #[derive(Debug, Drop)]
 pub struct Histories {
     journals: Vec<Journal>,
@@ -19,21 +21,22 @@ impl Model for Histories {
     ghost use Rattle.std.specs.Prelude.{◌≡◌, List, map};
     ghost use Rattle.std.specs.List.{range_with_len};
     ghost use Rattle.market_events.specs.declared.events.Entry.{Entry};
-    ghost use Rattle.market_history.specs.Histories.{nodes, entries_of, AreJournals};
+    ghost use Rattle.market_events.specs.declared.nodes.TheConstants.{NODES};
+    ghost use Rattle.market_history.specs.Histories.{entries_of, AreJournals};
     ghost use Rattle.market_history.specs.Journals.{JournalState};
 
     ghost Value = { List (List Entry) };
 
     ghost view = { λ h. entries_of h.journals.items };
 
-    ghost invariant = { λ h. (map (λ (j : JournalState). j.node) h.journals.items ≡ range_with_len 0 nodes)
+    ghost invariant = { λ h. (map (λ (j : JournalState). j.node) h.journals.items ≡ range_with_len 0 NODES)
         × AreJournals h.journals.items };
 }
 
 impl Histories {
     /// The histories of these journals. It requires those of the nodes 0 to 23, in order. It takes no memory.
     pub fn new(journals: Vec<Journal>) -> Histories
-        requires { map (λ (j : JournalState). j.node) journals.items ≡ range_with_len 0 nodes }
+        requires { map (λ (j : JournalState). j.node) journals.items ≡ range_with_len 0 NODES }
         ensures { result ≡ map (λ (j : JournalState). j.entries) journals.items }
     {
         // Each tells that its entries may stand at their places.

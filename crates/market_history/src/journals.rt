@@ -7,8 +7,8 @@ use market_events::{Entry, Node};
 use std::alloc::{AllocError, Global};
 use std::marker::Model;
 
-/// The journal of a node: what happened there, in order. Contracts see the node, the entries, and for how many more
-/// entries there is room for sure. Each entry may stand at its place.
+/// The journal of a node: what happened there, in order. Contracts see the node, the entries, and for how
+/// many more entries there is room for sure. Each entry may stand at its place.
 #[derive(Debug, Drop)]
 pub struct Journal {
     node: Node,
@@ -55,8 +55,8 @@ impl Journal {
         self.entries.as_slice()
     }
 
-    /// Makes room for at least this many more entries. On want of memory the journal is as before; it never fails where
-    /// the room is there already.
+    /// Makes room for at least this many more entries. On want of memory the journal is as before; it never
+    /// fails where the room is there already.
     pub fn reserve(&mut self, more: u32) -> Result<(), AllocError>
         ensures node { self.new.node ≡ self.old.node }
         ensures entries { self.new.entries ≡ self.old.entries }

@@ -5,7 +5,10 @@ use Rattle.market_events.specs.declared.bodies.Body.TheVariants as body
 use Rattle.market_events.specs.declared.bodies.Ending.TheVariants as ending
 use Rattle.market_events.specs.declared.events.Entry.{Entry}
 use Rattle.market_events.specs.declared.links.Link.{Link}
-use Rattle.market_events.specs.declared.links.Link.TheVariants.{Service, Asked, Told}
+use Rattle.market_events.specs.declared.links.Link.TheVariants.{Asked, Told}
+use Rattle.market_events.specs.declared.links.TheConstants.{CART_TO_STOCK, STOCK_TO_ORDER, ORDER_TO_SELLER}
+use Rattle.market_events.specs.declared.links.TheConstants.{ORDER_TO_CART, PAYMENT_TO_STOCK}
+use Rattle.market_events.specs.declared.links.TheConstants.{SHIPMENT_TO_SELLER, SHIPMENT_TO_CUSTOMER}
 use Rattle.market_events.specs.declared.replies.Reply.TheVariants as reply
 use Rattle.market_events.specs.declared.requests.Ask.TheVariants as ask
 use Rattle.market_history.specs.Checkouts.{is_kept_checkout}
@@ -13,8 +16,11 @@ use Rattle.market_history.specs.Examples.{id, request, event, given, made}
 use Rattle.market_history.specs.ExamplesCreate.{past}
 use Rattle.market_history.specs.Histories.{Histories, with_journal}
 use Rattle.market_history.specs.Lawful.{IsLawful}
-use Rattle.market_laws.specs.Causes.{ReservesHaveCauses, StockAnswersHaveCauses, InvoicesHaveCauses, PaymentsHaveCauses, ShipmentsHaveCauses, EndingsHaveCauses, TellingsHaveCauses, DeliveriesHaveCauses, all_made_for}
-use Rattle.market_laws.specs.CounterexampleValues.{checkout_for, reserve_for, held_for, invoice_for, paid_with, shipped, delivered}
+use Rattle.market_laws.specs.Causes.{ReservesHaveCauses, StockAnswersHaveCauses, InvoicesHaveCauses}
+use Rattle.market_laws.specs.Causes.{PaymentsHaveCauses, ShipmentsHaveCauses, EndingsHaveCauses}
+use Rattle.market_laws.specs.Causes.{TellingsHaveCauses, DeliveriesHaveCauses, all_made_for}
+use Rattle.market_laws.specs.CounterexampleValues.{checkout_for, reserve_for, held_for, invoice_for}
+use Rattle.market_laws.specs.CounterexampleValues.{paid_with, shipped, delivered}
 use Rattle.market_laws.specs.CounterexamplesHistories.{of_one}
 
 -- the body is made twice on the link
@@ -30,19 +36,19 @@ requested =
 abbrev pub ordered : Histories
 ordered =
     with_journal (with_journal (with_journal requested
-    0 (twice (Service 2) (reserve_for 7) ++ twice (Told 0 7) (body.Told (id 5) (reply.Whole 1950))))
-    2 (twice (Service 4) (held_for 7)))
-    3 (twice (Service 6) (invoice_for 7) ++ twice (Service 7) (body.Ended (id 5) (ending.Whole 1950)))
+    0 (twice CART_TO_STOCK (reserve_for 7) ++ twice (Told 0 7) (body.Told (id 5) (reply.Whole 1950))))
+    2 (twice STOCK_TO_ORDER (held_for 7)))
+    3 (twice ORDER_TO_SELLER (invoice_for 7) ++ twice ORDER_TO_CART (body.Ended (id 5) (ending.Whole 1950)))
 
 abbrev pub made_twice : Histories
 made_twice =
     with_journal (with_journal ordered
-    4 (twice (Service 8) (paid_with 1950)))
-    5 (twice (Service 14) shipped ++ twice (Service 15) delivered)
+    4 (twice PAYMENT_TO_STOCK (paid_with 1950)))
+    5 (twice SHIPMENT_TO_SELLER shipped ++ twice SHIPMENT_TO_CUSTOMER delivered)
 
 -- a checkout is sent on, once and with no request
 abbrev pub uncaused : Histories
-uncaused = of_one 0 (made (event (Service 2) 1 1 (past 0 0) (reserve_for 7)) ∷ [])
+uncaused = of_one 0 (made (event CART_TO_STOCK 1 1 (past 0 0) (reserve_for 7)) ∷ [])
 
 -- events_have_causes
 pub record CauseCounterexamples : Type 0 where

@@ -1,12 +1,15 @@
 -- Histories that are not lawful, each with what the laws on lawful histories say, which is false of it.
-use Rattle.std.specs.Prelude.{◌≡◌, ℕ, ◌^◌, ◌<◌, ◌≤◌, List, [], ◌∷◌, slice_index, replicate, Contains, count_by}
+use Rattle.std.specs.Prelude.{◌≡◌, ℕ, ◌^◌, ◌<◌, ◌≤◌, List, [], ◌∷◌, slice_index, replicate, Contains}
+use Rattle.std.specs.Prelude.{count_by}
 use Rattle.std.specs.List.{AllByRecursion, sum_by}
 use Rattle.market_events.specs.declared.bodies.Body.TheVariants as body
 use Rattle.market_events.specs.declared.bodies.PayRule.TheVariants as pay
 use Rattle.market_events.specs.declared.changes.Change.TheVariants.{Priced}
 use Rattle.market_events.specs.declared.events.Entry.{Entry}
 use Rattle.market_events.specs.declared.events.Event.{Event}
-use Rattle.market_events.specs.declared.links.Link.TheVariants.{Service, Asked, Told}
+use Rattle.market_events.specs.declared.links.Link.TheVariants.{Asked, Told}
+use Rattle.market_events.specs.declared.links.TheConstants.{PRODUCT_TO_CART, PRODUCT_TO_STOCK, CART_TO_STOCK}
+use Rattle.market_events.specs.declared.links.TheConstants.{STOCK_TO_ORDER, PAYMENT_TO_STOCK}
 use Rattle.market_events.specs.declared.replies.Reply.TheVariants as reply
 use Rattle.market_events.specs.declared.replies.Rule.TheVariants as rule
 use Rattle.market_events.specs.declared.requests.Ask.TheVariants as ask
@@ -14,14 +17,15 @@ use Rattle.market_events.specs.declared.requests.Request.{Request}
 use Rattle.market_events.specs.Carts.{changes_taken}
 use Rattle.market_events.specs.Orders.{is_of}
 use Rattle.market_events.specs.Products.{changes_made}
-use Rattle.market_events.specs.Services.{Role}
+use Rattle.market_events.specs.declared.roles.Role.{Role}
 use Rattle.market_events.specs.Stocks.{Reservation, pieces_of, reserved}
+use Rattle.market_history.specs.Book.{tables_at_end}
 use Rattle.market_history.specs.declared.schedule.Step.{Step}
 use Rattle.market_history.specs.Blocks.{service_steps}
-use Rattle.market_history.specs.Book.{tables_of}
 use Rattle.market_history.specs.Causality.{IsBefore, events_taken}
 use Rattle.market_history.specs.Checkouts.{listed_reservations}
-use Rattle.market_history.specs.Examples.{mug, id, request, give, event, given, taken, made, answered, create, created}
+use Rattle.market_history.specs.Examples.{mug, id, request, give, event, given, taken, made, answered, create}
+use Rattle.market_history.specs.Examples.{created}
 use Rattle.market_history.specs.ExamplesCreate.{past, asked, to_stock, to_cart, to_lane}
 use Rattle.market_history.specs.Histories.{Histories, journal_at, with_journal, no_histories, IsHistories}
 use Rattle.market_history.specs.Lawful.{IsLawful, IsLawfulAt}
@@ -86,7 +90,7 @@ pub record GrowthCounterexamples : Type 0 where
 
 -- made by products with no request: a price of a product that is not there, and a reply
 abbrev pub priced_unknown : Event
-priced_unknown = event (Service 0) 1 1 (past 0 0) (body.Changed mug 2 (Priced 1200))
+priced_unknown = event PRODUCT_TO_CART 1 1 (past 0 0) (body.Changed mug 2 (Priced 1200))
 
 abbrev pub told_unasked : Event
 told_unasked = event (Told 1 7) 1 2 (past 1 0) (body.Told (id 1) (reply.Priced 2))
@@ -121,9 +125,9 @@ pub record TakingCounterexamples : Type 0 where
       (changes_made (service_steps never_made Role.Product)) → ⊥
   pub never_stock : IsPrefixOf (changes_taken (service_steps never_made Role.Stock))
       (changes_made (service_steps never_made Role.Product)) → ⊥
-  pub never_cart_shows : ShowsFirst (tables_of never_made).cart_copy
+  pub never_cart_shows : ShowsFirst (tables_at_end never_made).cart_copy
       (changes_made (service_steps never_made Role.Product)) → ⊥
-  pub never_stock_shows : ShowsFirst (tables_of never_made).stock_copy
+  pub never_stock_shows : ShowsFirst (tables_at_end never_made).stock_copy
       (changes_made (service_steps never_made Role.Product)) → ⊥
   -- merged_schedules_leave_the_histories
   pub never_left : (play no_histories (merged never_made) ≡ never_made) → ⊥
@@ -134,7 +138,7 @@ pub record TakingCounterexamples : Type 0 where
 
 -- a change to the cart whose past does not tell of the one to stock before it
 abbrev pub forgetting : Event
-forgetting = event (Service 0) 1 5 (past 0 0) created
+forgetting = event PRODUCT_TO_CART 1 5 (past 0 0) created
 
 abbrev pub forgetful : Histories
 forgetful =
@@ -159,8 +163,8 @@ taken_early =
 pub record CausalCounterexamples : Type 0 where
   -- it is before the other, and not counted in its past
   pub forgetful_unlawful : IsLawful forgetful → ⊥
-  pub forgetful_first : IsMadeOn forgetful (Service 1) to_stock
-  pub forgetful_then : IsMadeOn forgetful (Service 0) forgetting
+  pub forgetful_first : IsMadeOn forgetful PRODUCT_TO_STOCK to_stock
+  pub forgetful_then : IsMadeOn forgetful PRODUCT_TO_CART forgetting
   pub forgetful_before : IsBefore (journal_at forgetful) to_stock forgetting
   pub forgetful_counted : (to_stock.number ≤ slice_index forgetting.past 1) → ⊥
   -- it is before the other, and not taken before it
@@ -171,7 +175,7 @@ pub record CausalCounterexamples : Type 0 where
 
 -- pieces that are held with no cause, and that orders took
 abbrev pub held : Event
-held = event (Service 4) 1 1 (past 0 0) (held_for 7)
+held = event STOCK_TO_ORDER 1 1 (past 0 0) (held_for 7)
 
 abbrev pub held_from_nothing : Histories
 held_from_nothing = of_two 2 (made held ∷ []) 3 (taken 2 held ∷ [])
@@ -181,15 +185,15 @@ abbrev pub stocks : Event
 stocks = event (Asked 7 2) 1 8 (past 0 1) (asks_for 2 (ask.Stock mug 3))
 
 abbrev pub reserves : Event
-reserves = event (Service 2) 1 12 (past 0 1) (reserve_for 7)
+reserves = event CART_TO_STOCK 1 12 (past 0 1) (reserve_for 7)
 
 abbrev pub fails_another : Event
-fails_another = event (Service 8) 1 20 (past 0 1) (body.Failed (id 5) 8 pay.NoCard)
+fails_another = event PAYMENT_TO_STOCK 1 20 (past 0 1) (body.Failed (id 5) 8 pay.NoCard)
 
 abbrev pub kept_after_failed : Histories
 kept_after_failed =
     of_one 2 (taken 5 to_stock ∷ taken 9 stocks ∷ taken 13 reserves
-    ∷ made (event (Service 4) 1 14 (past 0 1) (held_for 7)) ∷ taken 21 fails_another ∷ [])
+    ∷ made (event STOCK_TO_ORDER 1 14 (past 0 1) (held_for 7)) ∷ taken 21 fails_another ∷ [])
 
 -- reserved_is_listed: reservations that are listed and not kept, wait for nothing, or are kept and not listed
 pub record ReservedCounterexamples : Type 0 where

@@ -3,8 +3,8 @@ use Rattle.std.specs.Prelude.{◌≡◌, ℕ, [], ◌∷◌, Some, ◌⊎◌}
 use Rattle.market_events.specs.declared.events.Event.{Event}
 use Rattle.market_events.specs.declared.events.Offer.TheVariants as offers
 use Rattle.market_events.specs.declared.links.Link.{Link}
-use Rattle.market_events.specs.declared.links.Link.TheVariants.{Service}
 use Rattle.market_events.specs.Links.{IsLink}
+use Rattle.market_events.specs.declared.links.TheConstants.{PRODUCT_TO_CART, PRODUCT_TO_STOCK}
 use Rattle.market_history.specs.declared.schedule.Outcome.TheVariants as outcomes
 use Rattle.market_history.specs.declared.schedule.Step.TheVariants as moves
 use Rattle.market_history.specs.Examples.{event, taken, made, created}
@@ -17,7 +17,7 @@ use Rattle.market_laws.specs.CounterexamplesHistories.{of_one, of_two}
 
 -- a change to the cart with this number, clock and count of link 0 before it
 abbrev pub to_cart_at : ℕ → ℕ → ℕ → Event
-to_cart_at number clock before = event (Service 0) number clock (past before 0) created
+to_cart_at number clock before = event PRODUCT_TO_CART number clock (past before 0) created
 
 -- the second change has a smaller clock than the first
 abbrev pub falling : Histories
@@ -25,7 +25,7 @@ falling = of_one 1 (made (to_cart_at 1 5 0) ∷ made (to_cart_at 2 3 1) ∷ [])
 
 -- changes to stock and to the cart with the same clock
 abbrev pub twins : Histories
-twins = of_one 1 (made (event (Service 1) 1 4 (past 0 0) created) ∷ made (to_cart_at 1 4 0) ∷ [])
+twins = of_one 1 (made (event PRODUCT_TO_STOCK 1 4 (past 0 0) created) ∷ made (to_cart_at 1 4 0) ∷ [])
 
 -- two changes with the same number, of which the first was taken
 abbrev pub alike : Histories
@@ -41,13 +41,13 @@ pub record OldestCounterexamples : Type 0 where
   pub falling_oldest : (IsSettled falling ⊎ ((link : Link) × (number : ℕ)
       × IsLink link × IsOldest falling link number)) → ⊥
   pub twins_unlawful : IsLawful twins → ⊥
-  pub twins_oldest : IsOldest twins (Service 0) 1
-  pub twins_other : IsOldest twins (Service 1) 1
-  pub twins_only : ((Service 0 ≡ Service 1) × (◌≡◌ {A = ℕ} 1 1)) → ⊥
+  pub twins_oldest : IsOldest twins PRODUCT_TO_CART 1
+  pub twins_other : IsOldest twins PRODUCT_TO_STOCK 1
+  pub twins_only : ((PRODUCT_TO_CART ≡ PRODUCT_TO_STOCK) × (◌≡◌ {A = ℕ} 1 1)) → ⊥
   pub alike_unlawful : IsLawful alike → ⊥
-  pub alike_oldest : IsOldest alike (Service 0) 1
-  pub alike_found : (event_at alike (Service 0) 1 ≡ Some alike_oldest.event) → ⊥
+  pub alike_oldest : IsOldest alike PRODUCT_TO_CART 1
+  pub alike_found : (event_at alike PRODUCT_TO_CART 1 ≡ Some alike_oldest.event) → ⊥
   pub ahead_unlawful : IsLawful ahead → ⊥
-  pub ahead_oldest : IsOldest ahead (Service 0) 1
+  pub ahead_oldest : IsOldest ahead PRODUCT_TO_CART 1
   pub ahead_taken : (offered ahead ahead_oldest.event ≡ offers.Take) → ⊥
-  pub ahead_comes : (outcome_of ahead (moves.Offer (Service 0) 1) ≡ outcomes.Offered offers.Take) → ⊥
+  pub ahead_comes : (outcome_of ahead (moves.Offer PRODUCT_TO_CART 1) ≡ outcomes.Offered offers.Take) → ⊥

@@ -1,5 +1,5 @@
--- Cuts: places of a journal where an event was taken or made, the steps of a service up to there, and that what was taken
--- there fits.
+-- Cuts: places of a journal where an event was taken or made, the steps of a service up to there, and that
+-- what was taken there fits.
 use Rattle.std.specs.Prelude.{◌≡◌, ℕ, ◌<◌, true, List, ◌∷◌, ◌++◌}
 use Rattle.market_events.specs.declared.events.Entry.{Entry}
 use Rattle.market_events.specs.declared.events.Event.{Event}
@@ -8,8 +8,9 @@ use Rattle.market_events.specs.declared.events.What.TheVariants.{Given, Taken, M
 use Rattle.market_events.specs.Links.{sender_of}
 use Rattle.market_events.specs.Services.{fits}
 use Rattle.market_events.specs.Steps.{Step}
+use Rattle.market_events.specs.declared.nodes.TheConstants.{NODES}
 use Rattle.market_history.specs.Blocks.{inputs_of, role_at, steps_of, services}
-use Rattle.market_history.specs.Histories.{Histories, nodes, journal_at}
+use Rattle.market_history.specs.Histories.{Histories, journal_at}
 use Rattle.market_history.specs.Lawful.{IsReadyAfter}
 use Rattle.market_laws.specs.Grown.{Grown}
 
@@ -28,7 +29,7 @@ pub record StandsIn {A : Type 0} (before : List A) (x : A) (xs : List A) : Type 
 
 -- the place where node n took the event, with this clock
 pub record TookAt (h : Histories) (n : ℕ) (event : Event) : Type 0 where
-  pub node : n < nodes
+  pub node : n < NODES
   pub clock : ℕ
   pub before : List Entry
   pub after : List Entry
@@ -38,7 +39,7 @@ pub record TookAt (h : Histories) (n : ℕ) (event : Event) : Type 0 where
 
 -- the place where node n made the event
 pub record MadeAt (h : Histories) (n : ℕ) (event : Event) : Type 0 where
-  pub node : n < nodes
+  pub node : n < NODES
   pub leaves : sender_of event.link ≡ n
   pub before : List Entry
   pub after : List Entry
@@ -57,4 +58,5 @@ FitsAfter n before (Answered id reply) = Unit {0}
 
 -- each event that a service took with a smaller clock fitted there
 abbrev pub FitsBelow : Histories → ℕ → Type 0
-FitsBelow h top = (n : ℕ) → n < services → (event : Event) → (t : TookAt h n event) → t.clock < top → FitsAt n t.before event
+FitsBelow h top = (n : ℕ) → n < services → (event : Event) → (t : TookAt h n event) → t.clock < top
+    → FitsAt n t.before event

@@ -1,4 +1,5 @@
--- What is taken in time: what a lane is told is for a request that was given to it before and has no reply yet.
+-- What is taken in time: what a lane is told is for a request that was given to it before and has no reply
+-- yet.
 use Rattle.std.specs.Prelude.{◌≡◌, ℕ, true, List, [], is_some, None}
 use Rattle.market_amounts.specs.declared.keys.RequestId.{RequestId}
 use Rattle.market_events.specs.declared.bodies.Body.{Body}

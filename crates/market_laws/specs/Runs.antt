@@ -40,12 +40,15 @@ abbrev pub is_delivery : Body → Bool
 is_delivery (body.Delivered items) = true
 is_delivery other = false
 
--- no item is of the line of another one, or of an earlier one: of its checkout and product, whoever the customer is
+-- no item is of the line of another one, or of an earlier one: of its checkout and product, whoever the
+-- customer is
 abbrev pub lines_apart : List Item → List Item → Bool
 lines_apart before [] = true
-lines_apart before (i ∷ more) = not (list_any (is_item_of i.checkout i.key) before) && lines_apart (before ++ i ∷ []) more
+lines_apart before (i ∷ more) =
+    not (list_any (is_item_of i.checkout i.key) before) && lines_apart (before ++ i ∷ []) more
 
--- the item was paid for: a payment of its checkout by its customer was taken, and it has a line of its product
+-- the item was paid for: a payment of its checkout by its customer was taken, and it has a line of its
+-- product
 pub record IsPaidFor (steps : List Step) (item : Item) : Type 0 where
   pub lines : List PricedLine
   pub total : ℕ

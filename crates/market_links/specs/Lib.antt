@@ -1,2 +1,3 @@
 pub mod SenderStates
 pub mod Senders
+pub mod Slots

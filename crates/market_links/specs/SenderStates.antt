@@ -1,5 +1,6 @@
 -- What a sender is, and what its steps make of it.
-use Rattle.std.specs.Prelude.{◌≡◌, ℕ, ◌+◌, ◌-◌, ◌≤◌, ◌&&◌, nat_lt, nat_le, List, [], ◌∷◌, ◌++◌, length, take, drop, if◌then◌else◌}
+use Rattle.std.specs.Prelude.{◌≡◌, ℕ, ◌+◌, ◌-◌, ◌≤◌, ◌&&◌, nat_lt, nat_le, List, [], ◌∷◌, ◌++◌, length, take}
+use Rattle.std.specs.Prelude.{drop, if◌then◌else◌}
 use Rattle.market_events.specs.declared.links.Link.{Link}
 use Rattle.market_events.specs.declared.events.Event.{Event}
 
@@ -19,7 +20,7 @@ abbrev pub Follow : Link → ℕ → List Event → Type 0
 Follow link n [] = Unit {0}
 Follow link n (e ∷ es) = (e.link ≡ link) × (e.number ≡ n + 1) × Follow link (n + 1) es
 
-pub record IsSound (sender : SenderState) : Type 0 where
+pub record IsSenderState (sender : SenderState) : Type 0 where
   pub numbered : Follow sender.link sender.acknowledged sender.under_way
   pub above : sender.acknowledged ≤ sender.released
   pub appended : sender.released ≤ sender.acknowledged + length sender.under_way
@@ -30,13 +31,15 @@ next_number sender = sender.acknowledged + length sender.under_way + 1
 
 -- with one event more, which takes a spare place where there is one
 abbrev pub with_event : SenderState → Event → SenderState
-with_event sender event = record sender { under_way = sender.under_way ++ event ∷ []; spare = sender.spare - 1 }
+with_event sender event =
+    record sender { under_way = sender.under_way ++ event ∷ []; spare = sender.spare - 1 }
 
 -- a count that is above the acknowledged and not above the released forgets the events up to it
 abbrev pub with_ack : SenderState → ℕ → SenderState
 with_ack sender count =
     if nat_lt sender.acknowledged count && nat_le count sender.released
-    then record sender { acknowledged = count; under_way = drop (count - sender.acknowledged) sender.under_way }
+    then record sender
+    { acknowledged = count; under_way = drop (count - sender.acknowledged) sender.under_way }
     else sender
 
 -- every event is released

@@ -37,8 +37,8 @@ impl Receiver {
         self.count
     }
 
-    /// What becomes of an event of this link that is offered to the node, which took these counts of events on the
-    /// service links. It takes no memory and changes nothing.
+    /// What becomes of an event of this link that is offered to the node, which took these counts of events
+    /// on the service links. It takes no memory and changes nothing.
     pub fn offer(&self, event: &Event, node: Node, taken: &Counts) -> Offer
         ensures { result ≡ offer_by self.now node taken.now event.now }
     {

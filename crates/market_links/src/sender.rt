@@ -1,7 +1,9 @@
 //! The sender of a link.
 
-ghost use Rattle.std.specs.Prelude.{◌≡◌, ◌+◌, ◌<◌, ◌≤◌, drop, max, [], vec_len, vec_capacity, IsOk, OnOk, OnErr, IfErr};
-ghost use Rattle.market_links.specs.SenderStates.{IsSound, next_number, with_event, with_ack, with_release, window_of};
+ghost use Rattle.std.specs.Prelude.{◌≡◌, ◌+◌, ◌<◌, ◌≤◌, drop, max, [], vec_len, vec_capacity, IsOk, OnOk};
+ghost use Rattle.std.specs.Prelude.{OnErr, IfErr};
+ghost use Rattle.market_links.specs.SenderStates.{next_number, with_event, with_ack, with_release, window_of};
+ghost use Rattle.market_links.specs.SenderStates.{IsSenderState};
 
 use market_events::{Event, Link};
 use std::alloc::{AllocError, Global};
@@ -10,13 +12,13 @@ use std::marker::Model;
 // How many events are sent at once.
 const WINDOW: usize = 7;
 
-/// The sender of a link, with the events that were appended and not yet acknowledged. Contracts see a `SenderState`:
-/// the link, those events, how many events were acknowledged and how many released, and how many may be appended
-/// without taking memory. The numbers of the events go from 1 to 4,294,967,295.
+/// The sender of a link, with the events that were appended and not yet acknowledged. Contracts see a
+/// `SenderState`: the link, those events, how many events were acknowledged and how many released, and how
+/// many may be appended without taking memory. The numbers of the events go from 1 to 4,294,967,295.
 ///
-/// `append` and `reserve` alone take memory. Acknowledged events are forgotten: at most as many of them are kept as are
-/// under way. Each call takes constant time, where the cost of moving events is spread over those appended and
-/// acknowledged.
+/// `append` and `reserve` alone take memory. Acknowledged events are forgotten: at most as many of them are
+/// kept as are under way. Each call takes constant time, where the cost of moving events is spread over those
+/// appended and acknowledged.
 #[derive(Debug, Drop)]
 pub struct Sender {
     link: Link,
@@ -31,7 +33,7 @@ pub struct Sender {
 
 impl Model for Sender {
     ghost use Rattle.std.specs.Prelude.{◌+◌, ◌≤◌, drop, vec_len, vec_capacity};
-    ghost use Rattle.market_links.specs.SenderStates.{SenderState, IsSound};
+    ghost use Rattle.market_links.specs.SenderStates.{SenderState, IsSenderState};
 
     ghost Value = { SenderState };
 
@@ -58,9 +60,9 @@ impl Sender {
         }
     }
 
-    /// Appends an event, which is not released yet. It requires the sender's link and the next number: one more than
-    /// the events that were appended. With a spare place it takes no memory, uses that place and succeeds. On want of
-    /// memory the event comes back, and the sender is as before.
+    /// Appends an event, which is not released yet. It requires the sender's link and the next number: one
+    /// more than the events that were appended. With a spare place it takes no memory, uses that place and
+    /// succeeds. On want of memory the event comes back, and the sender is as before.
     pub fn append(&mut self, event: Event) -> Result<(), Event>
         requires link { event.link ≡ self.old.link }
         requires next { event.number ≡ next_number self.old }
@@ -92,8 +94,8 @@ impl Sender {
         Ok(())
     }
 
-    /// Takes an acknowledgment of the first `count` events. Where that is more than before, and no more than were
-    /// released, the events up to it are forgotten; any other count changes nothing.
+    /// Takes an acknowledgment of the first `count` events. Where that is more than before, and no more than
+    /// were released, the events up to it are forgotten; any other count changes nothing.
     pub fn ack(&mut self, count: u32)
         ensures { self.new ≡ with_ack self.old count }
     {
@@ -120,7 +122,7 @@ impl Sender {
         ensures shown { result.now ≡ window_of self.now }
 
         // The events under way are of the link, and numbered from the acknowledged count on.
-        ensures sound { IsSound self.now }
+        ensures sound { IsSenderState self.now }
     {
         let released = (self.released - self.acknowledged) as usize;
         let end = self.gone + released.min(WINDOW);

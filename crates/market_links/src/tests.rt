@@ -2,6 +2,7 @@
 
 ghost use Rattle.std.specs.Prelude.{◌≡◌};
 ghost use Rattle.market_events.specs.declared.links.Link.TheVariants.{Service};
+ghost use Rattle.market_events.specs.declared.links.TheConstants.{CART_TO_STOCK};
 
 use crate::receiver::Receiver;
 use crate::sender::Sender;
@@ -12,7 +13,7 @@ use std::test::Fail;
 
 // An event of link 2 that rests on `needed` events of link 1.
 fn event(number: u32, needed: u32, request: &Request) -> Event
-    ensures link { result.link ≡ Service 2 }
+    ensures link { result.link ≡ CART_TO_STOCK }
     ensures number { result.number ≡ number }
 {
     let mut past = Counts::zero();

@@ -4,10 +4,10 @@ use Rattle.std.specs.Prelude.{slice_get}
 use Rattle.market_events.specs.declared.events.Entry.{Entry}
 use Rattle.market_events.specs.declared.links.Link.{Link}
 use Rattle.market_events.specs.Links.{IsLink, sender_of}
-use Rattle.market_history.specs.Sent.{made_on, sent, IsNumbered}
+use Rattle.market_history.specs.Sent.{event_made_on, sent, IsNumbered}
+use Rattle.market_links.specs.Slots.{slot_from}
 use Rattle.market_node.specs.Notes.{AreNotes, places_of, at_slot, event_with}
 use Rattle.market_node.specs.PlaceStates.{PlaceState}
-use Rattle.market_node.specs.Slots.{slot_from}
 use Rattle.market_node.proofs.PlaceLaws.{no_place, event_with-at}
 use Rattle.market_node.proofs.ReadLaws.{of_entry, event_there}
 
@@ -17,7 +17,7 @@ no_event link xs number numbered positive none =
     event_with-at link xs (number - 1) number numbered (omega arith) ∙ no_place link xs (number - 1) none
 
 -- and else the event of the entry there
-pub event_found : (link : Link) (xs : List Entry) (number place : ℕ) → IsNumbered (sent link xs) → number ≢ 0 → slice_get (places_of link xs) (number - 1) ≡ Some place → event_with link number xs ≡ of_entry (made_on link) (slice_get xs place)
+pub event_found : (link : Link) (xs : List Entry) (number place : ℕ) → IsNumbered (sent link xs) → number ≢ 0 → slice_get (places_of link xs) (number - 1) ≡ Some place → event_with link number xs ≡ of_entry (event_made_on link) (slice_get xs place)
 event_found link xs number place numbered positive at =
     event_with-at link xs (number - 1) number numbered (omega arith) ∙ event_there link xs (number - 1) place at
 

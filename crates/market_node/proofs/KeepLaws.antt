@@ -10,11 +10,11 @@ use Rattle.market_events.specs.declared.replies.Reply.{Reply}
 use Rattle.market_events.specs.declared.requests.Request.{Request}
 use Rattle.market_events.specs.Requests.{same_id}
 use Rattle.market_events.specs.Stocks.{first_some}
-use Rattle.market_events.proofs.SameLaws.{same_id-true}
+use Rattle.market_events.proofs.Values.Same.{same_id-true}
 use Rattle.market_history.specs.Once.{request_in, requests_given, with_id, reply_in, reply_of}
 use Rattle.market_history.proofs.CoreRequests.{requests_given-push-given, requests_given-push-none, reply_of-push, reply_of-push-none, with_id-push, or_none}
 use Rattle.market_node.specs.declared.table.Kept.{Kept}
-use Rattle.market_node.specs.Keeping.{given_in, place_or, first_place, kept_if, kept_of, kept_at, newly_kept, with_answer, is_that, is_awaited, KeepsRequests}
+use Rattle.market_node.specs.Keeping.{given_in, place_or, first_place, kept_if, newly_kept, with_answer, is_that, is_awaited, KeepsRequests, places_of_request, request_places_at}
 
 -- places
 
@@ -162,7 +162,7 @@ KeepsRequests-quiet xs x table count waiting keeps none ungiven unanswered = rec
 -- it gave a request with a new id, where no request waits
 pub KeepsRequests-given : (xs : List Entry) (x : Entry) (r : Request) (table after : List (RequestId × Kept)) (count : ℕ) (waiting : Option RequestId) → KeepsRequests xs table count waiting
     → x.what ≡ Given r → with_id r.id (requests_given xs) ≡ None → waiting ≡ None
-    → ((other : RequestId) → kept_at after other ≡ (if same_id r.id other then Some (newly_kept (length xs)) else kept_at table other))
+    → ((other : RequestId) → request_places_at after other ≡ (if same_id r.id other then Some (newly_kept (length xs)) else request_places_at table other))
     → KeepsRequests (xs ++ x ∷ []) after (count + 1) (Some r.id)
 KeepsRequests-given xs x r table after count waiting keeps is fresh idle set = record {
   each = λ id. by_each id (same_id r.id id) refl;
@@ -186,17 +186,17 @@ KeepsRequests-given xs x r table after count waiting keeps is fresh idle set = r
     absent_at : (id : RequestId) → same_id r.id id ≡ true → with_id id (requests_given xs) ≡ None
     absent_at id same = ap (λ (i : RequestId). with_id i (requests_given xs)) (sym (same_id-true r.id id same)) ∙ fresh
 
-    by_each : (id : RequestId) (b : Bool) → same_id r.id id ≡ b → kept_at after id ≡ kept_of (xs ++ x ∷ []) id
+    by_each : (id : RequestId) (b : Bool) → same_id r.id id ≡ b → request_places_at after id ≡ places_of_request (xs ++ x ∷ []) id
     by_each id true same =
         set id
-        ∙ ap (λ b. if b then Some (newly_kept (length xs)) else kept_at table id) same
+        ∙ ap (λ b. if b then Some (newly_kept (length xs)) else request_places_at table id) same
         ∙ sym (ap (λ g. kept_if g (first_place (reply_in id) 0 (xs ++ x ∷ [])))
         (first_place-push-some (given_in id) xs x r (ap (λ w. given_in id w) is ∙ ap (λ b. if b then Some r else None) same)
         (no_first_place (given_in id) 0 xs (sym (with_id-first id xs) ∙ absent_at id same)))
         ∙ ap (λ a. kept_if (Some (length xs)) a) (same_answer id ∙ no_first_place (reply_in id) 0 xs (no_reply id same)))
     by_each id false other =
         set id
-        ∙ ap (λ b. if b then Some (newly_kept (length xs)) else kept_at table id) other
+        ∙ ap (λ b. if b then Some (newly_kept (length xs)) else request_places_at table id) other
         ∙ keeps.each id
         ∙ sym (ap (λ g. kept_if g (first_place (reply_in id) 0 (xs ++ x ∷ [])))
         (first_place-push-none (given_in id) xs x (ap (λ w. given_in id w) is ∙ ap (λ b. if b then Some r else None) other))
@@ -234,7 +234,7 @@ and_never false = refl
 -- it answered the request that waits
 pub KeepsRequests-answered : (xs : List Entry) (x : Entry) (i : RequestId) (reply : Reply) (table after : List (RequestId × Kept)) (count : ℕ) (waiting : Option RequestId) → KeepsRequests xs table count waiting
     → x.what ≡ Answered i reply → is_awaited xs i ≡ true
-    → ((other : RequestId) → kept_at after other ≡ (if same_id i other then with_answer (length xs) (kept_at table other) else kept_at table other))
+    → ((other : RequestId) → request_places_at after other ≡ (if same_id i other then with_answer (length xs) (request_places_at table other) else request_places_at table other))
     → KeepsRequests (xs ++ x ∷ []) after count None
 KeepsRequests-answered xs x i reply table after count waiting keeps is awaited set = record {
   each = λ id. by_each id (same_id i id) refl;
@@ -258,10 +258,10 @@ KeepsRequests-answered xs x i reply table after count waiting keeps is awaited s
     no_reply : (id : RequestId) → same_id i id ≡ true → reply_of xs id ≡ None
     no_reply id here = ap (λ (j : RequestId). reply_of xs j) (sym (same_id-true i id here)) ∙ none_of_none (reply_of xs i) parts.1
 
-    by_each : (id : RequestId) (b : Bool) → same_id i id ≡ b → kept_at after id ≡ kept_of (xs ++ x ∷ []) id
+    by_each : (id : RequestId) (b : Bool) → same_id i id ≡ b → request_places_at after id ≡ places_of_request (xs ++ x ∷ []) id
     by_each id true here =
         set id
-        ∙ ap (λ b. if b then with_answer (length xs) (kept_at table id) else kept_at table id) here
+        ∙ ap (λ b. if b then with_answer (length xs) (request_places_at table id) else request_places_at table id) here
         ∙ ap (λ k. with_answer (length xs) k) (keeps.each id)
         ∙ answer_set (first_place (given_in id) 0 xs) (first_place (reply_in id) 0 xs) (length xs)
         ∙ sym (ap (λ g. kept_if g (first_place (reply_in id) 0 (xs ++ x ∷ []))) (same_place id)
@@ -269,7 +269,7 @@ KeepsRequests-answered xs x i reply table after count waiting keeps is awaited s
         (first_place-push-some (reply_in id) xs x reply (replies id true here) (no_first_place (reply_in id) 0 xs (no_reply id here))))
     by_each id false other =
         set id
-        ∙ ap (λ b. if b then with_answer (length xs) (kept_at table id) else kept_at table id) other
+        ∙ ap (λ b. if b then with_answer (length xs) (request_places_at table id) else request_places_at table id) other
         ∙ keeps.each id
         ∙ sym (ap (λ g. kept_if g (first_place (reply_in id) 0 (xs ++ x ∷ []))) (same_place id)
         ∙ ap (λ a. kept_if (first_place (given_in id) 0 xs) a) (first_place-push-none (reply_in id) xs x (replies id false other)))

@@ -24,7 +24,7 @@ use Rattle.market_history.proofs.CoreGrow.{length-with_what, clock-with_what}
 use Rattle.market_node.specs.Cores.{core_of, with_entries}
 use Rattle.market_node.specs.Records.{RecordState}
 use Rattle.market_node.specs.declared.table.Kept.{Kept}
-use Rattle.market_node.specs.Keeping.{kept_at, newly_kept, with_answer, is_awaited, is_told, KeepsRequests}
+use Rattle.market_node.specs.Keeping.{newly_kept, with_answer, is_awaited, is_told, KeepsRequests, request_places_at}
 use Rattle.market_node.proofs.KeepLaws.{KeepsRequests-quiet, KeepsRequests-given, KeepsRequests-answered}
 use Rattle.market_node.proofs.WaitLaws.{asked_fresh}
 
@@ -34,7 +34,7 @@ KeepsRequests-none = record { each = λ id. refl; counted = refl; awaited = λ i
 
 -- a request that is asked
 pub keeps_given : (xs : List Entry) (r : Request) (to : Link) (b : Body) (table after : List (RequestId × Kept)) (count : ℕ) (waiting : Option RequestId) → KeepsRequests xs table count waiting → give_of xs r ≡ give.Asked
-    → ((other : RequestId) → kept_at after other ≡ (if same_id r.id other then Some (newly_kept (length xs)) else kept_at table other))
+    → ((other : RequestId) → request_places_at after other ≡ (if same_id r.id other then Some (newly_kept (length xs)) else request_places_at table other))
     → KeepsRequests (with_out (with_what xs (Given r)) (Out.Makes to b)) after (count + 1) (Some r.id)
 keeps_given xs r to b table after count waiting keeps asked set =
     let fresh = asked_fresh xs table count waiting r keeps asked in
@@ -44,12 +44,12 @@ keeps_given xs r to b table after count waiting keeps asked set =
 
 -- a request that is answered
 pub keeps_answered : (xs : List Entry) (event : Event) (id : RequestId) (reply : Reply) (table after : List (RequestId × Kept)) (count : ℕ) (waiting : Option RequestId) → KeepsRequests xs table count waiting → is_awaited xs id ≡ true
-    → ((other : RequestId) → kept_at after other ≡ (if same_id id other then with_answer (length xs + 1) (kept_at table other) else kept_at table other))
+    → ((other : RequestId) → request_places_at after other ≡ (if same_id id other then with_answer (length xs + 1) (request_places_at table other) else request_places_at table other))
     → KeepsRequests (with_out (with_what xs (Taken event)) (Out.Answers id reply)) after count None
 keeps_answered xs event id reply table after count waiting keeps awaited set =
     KeepsRequests-answered (with_what xs (Taken event)) _ id reply table after count waiting quiet refl
     (quiet.awaited id ∙ sym (keeps.awaited id) ∙ awaited)
-    (λ other. set other ∙ ap (λ n. if same_id id other then with_answer n (kept_at table other) else kept_at table other) (sym (length-with_what xs (Taken event))))
+    (λ other. set other ∙ ap (λ n. if same_id id other then with_answer n (request_places_at table other) else request_places_at table other) (sym (length-with_what xs (Taken event))))
   where
     quiet : KeepsRequests (with_what xs (Taken event)) table count waiting
     quiet = KeepsRequests-quiet xs _ table count waiting keeps refl (λ i. refl) (λ i. refl)
@@ -116,21 +116,21 @@ clock_moved old reserved came what first second one two =
 
 -- a lane's entries after it was given a request that it asks, and what it then notes
 pub asks : (xs ys es : List Entry) (r : Request) (to : Link) (b : Body) (table after : List (RequestId × Kept)) (count : ℕ) (waiting : Option RequestId) → KeepsRequests xs table count waiting → give_of xs r ≡ give.Asked
-    → ((other : RequestId) → kept_at after other ≡ (if same_id r.id other then Some (newly_kept (length es)) else kept_at table other))
+    → ((other : RequestId) → request_places_at after other ≡ (if same_id r.id other then Some (newly_kept (length es)) else request_places_at table other))
     → es ≡ xs → ys ≡ with_out (with_what xs (Given r)) (Out.Makes to b) → KeepsRequests ys after (count + 1) (Some r.id)
 asks xs ys es r to b table after count waiting keeps asked set same are =
     subst (λ zs. KeepsRequests zs after (count + 1) (Some r.id)) (sym are)
     (keeps_given xs r to b table after count waiting keeps asked
-    (λ other. set other ∙ ap (λ (zs : List Entry). if same_id r.id other then Some (newly_kept (length zs)) else kept_at table other) same))
+    (λ other. set other ∙ ap (λ (zs : List Entry). if same_id r.id other then Some (newly_kept (length zs)) else request_places_at table other) same))
 
 -- and after it was told a reply
 pub answers : (xs ys es : List Entry) (event : Event) (id : RequestId) (reply : Reply) (table after : List (RequestId × Kept)) (count : ℕ) (waiting : Option RequestId) → KeepsRequests xs table count waiting → is_awaited xs id ≡ true
-    → ((other : RequestId) → kept_at after other ≡ (if same_id id other then with_answer (length es + 1) (kept_at table other) else kept_at table other))
+    → ((other : RequestId) → request_places_at after other ≡ (if same_id id other then with_answer (length es + 1) (request_places_at table other) else request_places_at table other))
     → es ≡ xs → ys ≡ with_out (with_what xs (Taken event)) (Out.Answers id reply) → KeepsRequests ys after count None
 answers xs ys es event id reply table after count waiting keeps awaited set same are =
     subst (λ zs. KeepsRequests zs after count None) (sym are)
     (keeps_answered xs event id reply table after count waiting keeps awaited
-    (λ other. set other ∙ ap (λ (zs : List Entry). if same_id id other then with_answer (length zs + 1) (kept_at table other) else kept_at table other) same))
+    (λ other. set other ∙ ap (λ (zs : List Entry). if same_id id other then with_answer (length zs + 1) (request_places_at table other) else request_places_at table other) same))
 
 -- what is not so fails
 pub not_so : (b : Bool) → false ≡ not b → b ≡ true

@@ -1,4 +1,3 @@
-pub mod SlotLaws
 pub mod RaiseLaws
 pub mod PlaceLaws
 pub mod NoteLaws

@@ -6,13 +6,14 @@ use Rattle.market_events.specs.declared.links.Link.{Link}
 use Rattle.market_events.specs.declared.links.Link.TheVariants as link
 use Rattle.market_events.specs.AnswerShape.{IsAnswer, AreAnswers}
 use Rattle.market_events.specs.Links.{sender_of}
-use Rattle.market_events.specs.Services.{Role, answers, fits, reactions, node_of, IsRunOf, most_steps}
+use Rattle.market_events.specs.declared.roles.Role.{Role}
+use Rattle.market_events.specs.Services.{answers, fits, reactions, node_of, IsRunOf, most_steps}
 use Rattle.market_events.specs.Steps.{Step, Sending}
 use Rattle.market_events.specs.WellFormed.{IsBody}
-use Rattle.market_events.proofs.AnswerBaskets.{cart_shape}
-use Rattle.market_events.proofs.AnswerRuns.{product_shape, payment_shape, customer_shape, order_shape, stock_shape, shipment_shape, seller_shape}
-use Rattle.market_events.proofs.FormedLaws.{body_formed-IsBody}
-use Rattle.market_events.proofs.StandingLaws.{is_fit, reactions-fit}
+use Rattle.market_events.proofs.Shapes.CartRuns.{cart_shape}
+use Rattle.market_events.proofs.Shapes.AllRuns.{product_shape, payment_shape, customer_shape, order_shape, stock_shape, shipment_shape, seller_shape}
+use Rattle.market_events.proofs.Values.Formed.{body_formed-IsBody}
+use Rattle.market_events.proofs.Runs.Standing.{is_fit, reactions-fit}
 use Rattle.market_history.specs.Journals.{AsksOwn}
 use Rattle.market_node.specs.ServiceCores.{CanMake}
 

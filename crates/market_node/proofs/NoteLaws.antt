@@ -12,20 +12,21 @@ use Rattle.market_events.specs.Counts.{IsMergeOf}
 use Rattle.market_events.specs.Links.{IsLink, sender_of, receiver_of, same_link}
 use Rattle.market_events.specs.Offers.{taken_on, counts_of, is_ready, offer_by}
 use Rattle.market_events.specs.declared.links.TheConstants.{SERVICE_LINKS}
-use Rattle.market_events.proofs.OfferLaws.{same_link-true, of_each_count}
+use Rattle.market_events.proofs.Values.Offers.{same_link-true, of_each_count}
 use Rattle.market_history.specs.Causality.{count_told, event_taken, events_taken, past_of}
-use Rattle.market_history.specs.Sent.{made_on, sent, IsNumbered}
+use Rattle.market_history.specs.Sent.{event_made_on, sent, IsNumbered}
 use Rattle.market_history.proofs.CoreEntries.{events_taken-push-taken, events_taken-push-none, past_of-push-none}
 use Rattle.market_history.proofs.SentLaws.{sent-push-none, sent-push-some, IsNumbered-push}
 use Rattle.market_history.proofs.CausalityLaws.{past_of-by}
 use Rattle.market_history.proofs.StampLaws.{clock_before-push}
 use Rattle.market_history.specs.Stamps.{clock_before}
+use Rattle.market_links.proofs.SlotLaws.{apart_from, from_below, into_below}
+use Rattle.market_links.specs.Slots.{slot_into, slot_from}
+use Rattle.market_links.specs.declared.slots.TheConstants.{SLOTS}
 use Rattle.market_node.specs.Notes.{AreNotes, raised_on, places_of, at_slot, no_places, HaveRoom}
 use Rattle.market_node.specs.PlaceStates.{PlaceState}
-use Rattle.market_node.specs.Slots.{slots, slot_into, slot_from}
 use Rattle.market_node.proofs.PlaceLaws.{places_of-push-made, places_of-push-none}
 use Rattle.market_node.proofs.RaiseLaws.{past_of-taken, past_of-made, counts_of-next, counted_next}
-use Rattle.market_node.proofs.SlotLaws.{apart_from, from_below, into_below}
 
 -- an event that is taken has the next number of its link
 pub next_of_take : (count node : ℕ) (counts : List ℕ) (event : Event) → offer_by count node counts event ≡ offer.Take → event.number ≡ count + 1
@@ -40,7 +41,7 @@ next_of_take count node counts event take =
 
 -- an entry that neither took nor made an event
 pub AreNotes-quiet : (node : ℕ) (xs : List Entry) (x : Entry) (clock : ℕ) (known services receivers : List ℕ) (lists : List PlaceState) → AreNotes node xs clock known services receivers lists
-    → ((k : ℕ) → count_told x k ≡ 0) → event_taken x.what ≡ None → ((link : Link) → made_on link x.what ≡ None)
+    → ((k : ℕ) → count_told x k ≡ 0) → event_taken x.what ≡ None → ((link : Link) → event_made_on link x.what ≡ None)
     → AreNotes node (xs ++ x ∷ []) x.clock known services receivers lists
 AreNotes-quiet node xs x clock known services receivers lists notes told taken made = record {
   clock = sym (clock_before-push xs x);
@@ -78,8 +79,8 @@ AreNotes-taken node xs x event merged clock known services receivers lists notes
     pushed : events_taken (xs ++ x ∷ []) ≡ events_taken xs ++ event ∷ []
     pushed = events_taken-push-taken xs x event is
 
-    none : (link : Link) → made_on link x.what ≡ None
-    none link = ap (λ w. made_on link w) is
+    none : (link : Link) → event_made_on link x.what ≡ None
+    none link = ap (λ w. event_made_on link w) is
 
 -- what the places of a slot become, and those of the others
 pub at_slot-set : (lists : List PlaceState) (slot other : ℕ) (p : PlaceState) (b : Bool) → (slot == other) ≡ b → slot < length lists → at_slot (slice_set lists slot p) other ≡ (if b then p else at_slot lists other)
@@ -112,11 +113,11 @@ AreNotes-made node xs x event p clock known services receivers lists notes is is
     below : slot_from event.link < length lists
     below = let low = from_below event.link is_link in let long = notes.listed in omega arith
 
-    made_here : (link : Link) → same_link event.link link ≡ true → made_on link x.what ≡ Some event
-    made_here link same = ap (λ w. made_on link w) is ∙ ap (λ b. if b then Some event else None) same
+    made_here : (link : Link) → same_link event.link link ≡ true → event_made_on link x.what ≡ Some event
+    made_here link same = ap (λ w. event_made_on link w) is ∙ ap (λ b. if b then Some event else None) same
 
-    made_elsewhere : (link : Link) → same_link event.link link ≡ false → made_on link x.what ≡ None
-    made_elsewhere link other = ap (λ w. made_on link w) is ∙ ap (λ b. if b then Some event else None) other
+    made_elsewhere : (link : Link) → same_link event.link link ≡ false → event_made_on link x.what ≡ None
+    made_elsewhere link other = ap (λ w. event_made_on link w) is ∙ ap (λ b. if b then Some event else None) other
 
     by_places : (link : Link) (b : Bool) → same_link event.link link ≡ b → IsLink link → sender_of link ≡ node
         → (at_slot (slice_set lists (slot_from event.link) p) (slot_from link)).places ≡ places_of link (xs ++ x ∷ [])
@@ -143,7 +144,7 @@ AreNotes-made node xs x event p clock known services receivers lists notes is is
         subst (λ events. IsNumbered events) (sym (sent-push-none link xs x (made_elsewhere link same))) (notes.numbered link)
 
 -- one place less at each slot, where one of them got a place
-pub HaveRoom-push : (lists : List PlaceState) (slot room : ℕ) (p : PlaceState) → slot < length lists → p.spare ≡ (at_slot lists slot).spare - 1 → slot < slots → HaveRoom lists room → HaveRoom (slice_set lists slot p) (room - 1)
+pub HaveRoom-push : (lists : List PlaceState) (slot room : ℕ) (p : PlaceState) → slot < length lists → p.spare ≡ (at_slot lists slot).spare - 1 → slot < SLOTS → HaveRoom lists room → HaveRoom (slice_set lists slot p) (room - 1)
 HaveRoom-push lists slot room p below less within rooms other there = by_test (slot == other) refl
   where
     by_test : (b : Bool) → (slot == other) ≡ b → room - 1 ≤ (at_slot (slice_set lists slot p) other).spare
@@ -180,17 +181,17 @@ same_notes node other xs ys clock later known knows services serves receivers re
 -- nothing happened yet
 pub AreNotes-none : (node : ℕ) (known services receivers : List ℕ) (lists : List PlaceState)
     → length known ≡ SERVICE_LINKS → ((k : ℕ) → slice_index known k ≡ 0) → length services ≡ SERVICE_LINKS → ((k : ℕ) → slice_index services k ≡ 0)
-    → receivers ≡ replicate slots 0 → lists ≡ replicate slots no_places → AreNotes node [] 0 known services receivers lists
+    → receivers ≡ replicate SLOTS 0 → lists ≡ replicate SLOTS no_places → AreNotes node [] 0 known services receivers lists
 AreNotes-none node known services receivers lists long none wide zero r l = record {
   clock = refl;
   known = past_of-by [] known long (λ k lt. none k);
   services = of_each_count [] services wide (λ k lt. zero k);
-  received = ap (λ counts. length counts) r ∙ length-replicate {A = ℕ} slots 0;
+  received = ap (λ counts. length counts) r ∙ length-replicate {A = ℕ} SLOTS 0;
   receivers = λ link is into.
-      ap (λ counts. slice_index counts (slot_into link)) r ∙ get_or-replicate slots (slot_into link) 0 0 (into_below link is);
-  listed = ap (λ (ps : List PlaceState). length ps) l ∙ length-replicate slots no_places;
+      ap (λ counts. slice_index counts (slot_into link)) r ∙ get_or-replicate SLOTS (slot_into link) 0 0 (into_below link is);
+  listed = ap (λ (ps : List PlaceState). length ps) l ∙ length-replicate SLOTS no_places;
   places = λ link is from.
       ap (λ (ps : List PlaceState). (at_slot ps (slot_from link)).places) l
-      ∙ ap (λ (p : PlaceState). p.places) (get_or-replicate slots (slot_from link) no_places no_places (from_below link is));
+      ∙ ap (λ (p : PlaceState). p.places) (get_or-replicate SLOTS (slot_from link) no_places no_places (from_below link is));
   numbered = λ link. refl;
 }

@@ -8,34 +8,34 @@ use Rattle.std.proofs.lemmas.Option.{slice_get_past}
 use Rattle.market_events.specs.declared.events.Entry.{Entry}
 use Rattle.market_events.specs.declared.events.Event.{Event}
 use Rattle.market_events.specs.declared.links.Link.{Link}
-use Rattle.market_history.specs.Sent.{made_on, sent, IsNumbered}
+use Rattle.market_history.specs.Sent.{event_made_on, sent, IsNumbered}
 use Rattle.market_node.specs.Notes.{place_if, places_from, places_of, event_with}
 
 place_if-append : (o : Option Event) (p : ℕ) (xs ys : List ℕ) → place_if o p (xs ++ ys) ≡ place_if o p xs ++ ys
 place_if-append None p xs ys = refl
 place_if-append (Some e) p xs ys = refl
 
-places_from-push : (link : Link) (start end : ℕ) (xs : List Entry) (x : Entry) → end ≡ start + length xs → places_from link start (xs ++ x ∷ []) ≡ places_from link start xs ++ place_if (made_on link x.what) end []
+places_from-push : (link : Link) (start end : ℕ) (xs : List Entry) (x : Entry) → end ≡ start + length xs → places_from link start (xs ++ x ∷ []) ≡ places_from link start xs ++ place_if (event_made_on link x.what) end []
 places_from-push link start end [] x at =
-    let e : start ≡ end = omega arith in ap (λ p. place_if (made_on link x.what) p []) e
+    let e : start ≡ end = omega arith in ap (λ p. place_if (event_made_on link x.what) p []) e
 places_from-push link start end (y ∷ ys) x at =
-    ap (λ ps. place_if (made_on link y.what) start ps) (places_from-push link (start + 1) end ys x (omega arith))
-    ∙ place_if-append (made_on link y.what) start (places_from link (start + 1) ys) (place_if (made_on link x.what) end [])
+    ap (λ ps. place_if (event_made_on link y.what) start ps) (places_from-push link (start + 1) end ys x (omega arith))
+    ∙ place_if-append (event_made_on link y.what) start (places_from link (start + 1) ys) (place_if (event_made_on link x.what) end [])
 
 -- an entry that made an event on the link
-pub places_of-push-made : (link : Link) (xs : List Entry) (x : Entry) (event : Event) → made_on link x.what ≡ Some event → places_of link (xs ++ x ∷ []) ≡ places_of link xs ++ length xs ∷ []
+pub places_of-push-made : (link : Link) (xs : List Entry) (x : Entry) (event : Event) → event_made_on link x.what ≡ Some event → places_of link (xs ++ x ∷ []) ≡ places_of link xs ++ length xs ∷ []
 places_of-push-made link xs x event some =
     places_from-push link 0 (length xs) xs x (omega arith) ∙ ap (λ o. places_of link xs ++ place_if o (length xs) []) some
 
 -- and one that made none
-pub places_of-push-none : (link : Link) (xs : List Entry) (x : Entry) → made_on link x.what ≡ None → places_of link (xs ++ x ∷ []) ≡ places_of link xs
+pub places_of-push-none : (link : Link) (xs : List Entry) (x : Entry) → event_made_on link x.what ≡ None → places_of link (xs ++ x ∷ []) ≡ places_of link xs
 places_of-push-none link xs x none =
     places_from-push link 0 (length xs) xs x (omega arith) ∙ ap (λ o. places_of link xs ++ place_if o (length xs) []) none ∙ append-nil (places_of link xs)
 
 length-places_from : (link : Link) (start : ℕ) (xs : List Entry) → length (places_from link start xs) ≡ length (sent link xs)
 length-places_from link start [] = refl
 length-places_from link start (x ∷ xs) =
-    by_one (made_on link x.what) start (places_from link (start + 1) xs) (sent link xs) (length-places_from link (start + 1) xs)
+    by_one (event_made_on link x.what) start (places_from link (start + 1) xs) (sent link xs) (length-places_from link (start + 1) xs)
   where
     by_one : (o : Option Event) (p : ℕ) (ps : List ℕ) (es : List Event) → length ps ≡ length es → length (place_if o p ps) ≡ length (cons_option o es)
     by_one None p ps es e = e
@@ -53,7 +53,7 @@ pub record LeadsTo (link : Link) (start : ℕ) (xs : List Entry) (index place : 
   pub event : Event
   pub split : xs ≡ before ++ entry ∷ after
   pub there : place ≡ start + length before
-  pub on : made_on link entry.what ≡ Some event
+  pub on : event_made_on link entry.what ≡ Some event
   pub indexed : slice_get (sent link xs) index ≡ Some event
 
 longer : (link : Link) (start : ℕ) (x : Entry) (xs : List Entry) (index next place : ℕ) → slice_get (sent link (x ∷ xs)) next ≡ slice_get (sent link xs) index → LeadsTo link (start + 1) xs index place → LeadsTo link start (x ∷ xs) next place
@@ -70,9 +70,9 @@ longer link start x xs index next place same it = record {
 
 leads : (link : Link) (start : ℕ) (xs : List Entry) (index place : ℕ) → slice_get (places_from link start xs) index ≡ Some place → LeadsTo link start xs index place
 leads link start [] index place at = let no : ⊥ = cc in absurd no
-leads link start (x ∷ xs) index place at = by_one (made_on link x.what) refl index at (λ i. leads link (start + 1) xs i place)
+leads link start (x ∷ xs) index place at = by_one (event_made_on link x.what) refl index at (λ i. leads link (start + 1) xs i place)
   where
-    by_one : (o : Option Event) → made_on link x.what ≡ o → (i : ℕ) → slice_get (place_if o start (places_from link (start + 1) xs)) i ≡ Some place
+    by_one : (o : Option Event) → event_made_on link x.what ≡ o → (i : ℕ) → slice_get (place_if o start (places_from link (start + 1) xs)) i ≡ Some place
         → ((i : ℕ) → slice_get (places_from link (start + 1) xs) i ≡ Some place → LeadsTo link (start + 1) xs i place)
         → LeadsTo link start (x ∷ xs) i place
     by_one None none i here rest = longer link start x xs i i place (ap (λ o. slice_get (cons_option o (sent link xs)) i) none) (rest i here)

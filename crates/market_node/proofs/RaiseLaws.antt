@@ -12,12 +12,13 @@ use Rattle.market_events.specs.declared.links.TheConstants.{SERVICE_LINKS}
 use Rattle.market_events.specs.Counts.{with_raised, IsMergeOf}
 use Rattle.market_events.specs.Links.{IsLink, receiver_of, same_link}
 use Rattle.market_events.specs.Offers.{taken_on, counts_of}
-use Rattle.market_events.proofs.OfferLaws.{counts_of-push-service, counts_of-push-other, taken_on-push}
+use Rattle.market_events.proofs.Values.Offers.{counts_of-push-service, counts_of-push-other, taken_on-push}
 use Rattle.market_history.specs.Causality.{number_on, known, past_of}
 use Rattle.market_history.proofs.CausalityLaws.{known-push-made, known-push-taken, length-past_of, slice_index-past_of, past_of-by}
+use Rattle.market_links.proofs.SlotLaws.{into_below, apart_into}
+use Rattle.market_links.specs.Slots.{slot_into}
+use Rattle.market_links.specs.declared.slots.TheConstants.{SLOTS}
 use Rattle.market_node.specs.Notes.{raised_on}
-use Rattle.market_node.specs.Slots.{slots, slot_into}
-use Rattle.market_node.proofs.SlotLaws.{apart_into, into_below}
 
 raised_at : (counts : List ℕ) (j k number : ℕ) (b : Bool) → (j == k) ≡ b → j < length counts → slice_index (with_raised counts j number) k ≡ max (slice_index counts k) (if b then number else 0)
 raised_at counts j k number true test within =
@@ -82,7 +83,7 @@ added_at counts j k false test within =
     get_or-set_other counts j k (slice_index counts j + 1) 0 differs ∙ omega arith
 
 -- the counts by slot with one event more
-pub counted_next : (node : ℕ) (receivers : List ℕ) (taken : List Event) (event : Event) → length receivers ≡ slots → IsLink event.link → receiver_of event.link ≡ node
+pub counted_next : (node : ℕ) (receivers : List ℕ) (taken : List Event) (event : Event) → length receivers ≡ SLOTS → IsLink event.link → receiver_of event.link ≡ node
     → ((link : Link) → IsLink link → receiver_of link ≡ node → slice_index receivers (slot_into link) ≡ taken_on taken link)
     → (link : Link) → IsLink link → receiver_of link ≡ node
     → slice_index (slice_set receivers (slot_into event.link) (slice_index receivers (slot_into event.link) + 1)) (slot_into link) ≡ taken_on (taken ++ event ∷ []) link

@@ -6,7 +6,7 @@ use Rattle.market_events.specs.declared.events.Entry.{Entry}
 use Rattle.market_events.specs.declared.events.What.{What}
 use Rattle.market_events.specs.declared.links.Link.{Link}
 use Rattle.market_history.specs.Once.{requests_given, with_id, reply_in, reply_of}
-use Rattle.market_history.specs.Sent.{made_on, sent}
+use Rattle.market_history.specs.Sent.{event_made_on, sent}
 use Rattle.market_node.specs.Keeping.{given_in, first_place}
 use Rattle.market_node.specs.Notes.{places_of}
 use Rattle.market_node.proofs.KeepLaws.{given_at, answered_at, with_id-first}
@@ -35,7 +35,7 @@ request_there id xs place at =
     with_id-first id xs ∙ it.first ∙ sym it.gives ∙ ap (λ o. of_entry (given_in id) o) (sym (seam xs it.before it.entry it.after place it.split it.there))
 
 -- the event of a link
-pub event_there : (link : Link) (xs : List Entry) (index place : ℕ) → slice_get (places_of link xs) index ≡ Some place → slice_get (sent link xs) index ≡ of_entry (made_on link) (slice_get xs place)
+pub event_there : (link : Link) (xs : List Entry) (index place : ℕ) → slice_get (places_of link xs) index ≡ Some place → slice_get (sent link xs) index ≡ of_entry (event_made_on link) (slice_get xs place)
 event_there link xs index place at =
     let it = place_leads link xs index place at in
-    it.indexed ∙ sym it.on ∙ ap (λ o. of_entry (made_on link) o) (sym (seam xs it.before it.entry it.after place it.split it.there))
+    it.indexed ∙ sym it.on ∙ ap (λ o. of_entry (event_made_on link) o) (sym (seam xs it.before it.entry it.after place it.split it.there))

@@ -24,10 +24,10 @@ use Rattle.market_history.specs.Journals.{AsksOwn, CanBeKept, IsEntry, IsLane}
 use Rattle.market_history.specs.Sent.{sent}
 use Rattle.market_history.specs.Stamps.{clock_before, stamp_of}
 use Rattle.market_history.proofs.CoreEntries.{length-events_taken, length-sent}
+use Rattle.market_links.specs.Slots.{slot_into, slot_from}
 use Rattle.market_node.specs.Notes.{AreNotes, raised_on, at_slot}
 use Rattle.market_node.specs.PlaceStates.{PlaceState}
 use Rattle.market_node.specs.Records.{RecordState}
-use Rattle.market_node.specs.Slots.{slot_into, slot_from}
 use Rattle.market_node.proofs.NoteLaws.{next_of_take, AreNotes-quiet, AreNotes-taken, AreNotes-made, same_notes}
 use Rattle.market_node.proofs.PlaceLaws.{length-places_of}
 

@@ -10,10 +10,11 @@ use Rattle.market_events.specs.declared.events.Offer.TheVariants as offer
 use Rattle.market_events.specs.declared.events.What.TheVariants.{Taken}
 use Rattle.market_events.specs.declared.links.Link.{Link}
 use Rattle.market_events.specs.Offers.{offer_of}
-use Rattle.market_events.specs.Services.{Role, node_of, fits, reactions}
+use Rattle.market_events.specs.declared.roles.Role.{Role}
+use Rattle.market_events.specs.Services.{node_of, fits, reactions}
 use Rattle.market_events.specs.Standing.{Stands, CanTake, StandsForSome, with_step}
 use Rattle.market_events.specs.Steps.{Step, Sending}
-use Rattle.market_events.proofs.StandingLaws.{stands_on, stands_still}
+use Rattle.market_events.proofs.Runs.Standing.{stands_on, stands_still}
 use Rattle.market_history.specs.Blocks.{Arrival, inputs_of, steps_of, made_out, with_what, with_out, grow}
 use Rattle.market_history.specs.Causality.{events_taken}
 use Rattle.market_history.specs.Stamps.{clock_before}

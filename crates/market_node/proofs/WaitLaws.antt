@@ -6,7 +6,7 @@ use Rattle.market_events.specs.declared.events.Entry.{Entry}
 use Rattle.market_events.specs.declared.replies.Reply.{Reply}
 use Rattle.market_events.specs.declared.requests.Request.{Request}
 use Rattle.market_events.specs.Requests.{same_id}
-use Rattle.market_events.proofs.SameLaws.{same_id-true, same_id-self}
+use Rattle.market_events.proofs.Values.Same.{same_id-true, same_id-self}
 use Rattle.market_history.specs.declared.schedule.Give.TheVariants as give
 use Rattle.market_history.specs.Once.{requests_given, with_id, reply_of, is_waiting, most_kept, differs, give_by, give_of}
 use Rattle.market_history.proofs.CoreRequests.{with_id-id, any_passes, found_passes}

@@ -1,5 +1,6 @@
 -- How a lane finds the requests that it keeps, and their answers.
-use Rattle.std.specs.Prelude.{◌≡◌, ℕ, ◌+◌, Bool, true, false, ◌&&◌, is_some, is_none, List, [], ◌∷◌, length, Option, Some, None, if◌then◌else◌}
+use Rattle.std.specs.Prelude.{◌≡◌, ℕ, ◌+◌, Bool, true, false, ◌&&◌, is_some, is_none, List, [], ◌∷◌, length}
+use Rattle.std.specs.Prelude.{Option, Some, None, if◌then◌else◌}
 use Rattle.std.specs.BTreeMap.{is_at}
 use Rattle.std.specs.Map.{lookup}
 use Rattle.market_amounts.specs.declared.keys.RequestId.{RequestId}
@@ -35,12 +36,13 @@ kept_if None answered = None
 kept_if (Some given) answered = Some (record { given = given; answered = answered })
 
 -- where the request with this id was given and answered
-abbrev pub kept_of : List Entry → RequestId → Option Kept
-kept_of entries id = kept_if (first_place (given_in id) 0 entries) (first_place (reply_in id) 0 entries)
+abbrev pub places_of_request : List Entry → RequestId → Option Kept
+places_of_request entries id =
+    kept_if (first_place (given_in id) 0 entries) (first_place (reply_in id) 0 entries)
 
 -- what a table has of it
-abbrev pub kept_at : List (RequestId × Kept) → RequestId → Option Kept
-kept_at table id = lookup (is_at (id_cmp id)) table
+abbrev pub request_places_at : List (RequestId × Kept) → RequestId → Option Kept
+request_places_at table id = lookup (is_at (id_cmp id)) table
 
 abbrev pub newly_kept : ℕ → Kept
 newly_kept place = record { given = place; answered = None }
@@ -68,9 +70,11 @@ abbrev pub IsAwaitedBy : List Entry → Body → Type 0
 IsAwaitedBy entries (body.Told id reply) = is_awaited entries id ≡ true
 IsAwaitedBy entries other = Unit {0}
 
--- what a lane notes of the requests that it keeps: where each was given and answered, how many there are, and which waits
-pub record KeepsRequests (entries : List Entry) (table : List (RequestId × Kept)) (count : ℕ) (waiting : Option RequestId) : Type 0 where
-  pub each : (id : RequestId) → kept_at table id ≡ kept_of entries id
+-- what a lane notes of the requests that it keeps: where each was given and answered, how many there are, and
+-- which waits
+pub record KeepsRequests (entries : List Entry) (table : List (RequestId
+    × Kept)) (count : ℕ) (waiting : Option RequestId) : Type 0 where
+  pub each : (id : RequestId) → request_places_at table id ≡ places_of_request entries id
   pub counted : count ≡ length (requests_given entries)
   pub awaited : (id : RequestId) → is_awaited entries id ≡ is_that waiting id
   -- what was answered was given

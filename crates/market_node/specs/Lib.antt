@@ -1,5 +1,4 @@
 pub mod PlaceStates
-pub mod Slots
 pub mod Notes
 pub mod Records
 pub mod Recorders

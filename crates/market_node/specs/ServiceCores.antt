@@ -2,7 +2,8 @@
 use Rattle.std.specs.Prelude.{◌≡◌, ℕ, true, List}
 use Rattle.market_events.specs.Carried.{carries}
 use Rattle.market_events.specs.Links.{IsLink, sender_of}
-use Rattle.market_events.specs.Services.{Role, node_of}
+use Rattle.market_events.specs.declared.roles.Role.{Role}
+use Rattle.market_events.specs.Services.{node_of}
 use Rattle.market_events.specs.Standing.{Stands}
 use Rattle.market_events.specs.Steps.{Step, Sending}
 use Rattle.market_events.specs.WellFormed.{IsBody}
@@ -11,7 +12,8 @@ use Rattle.market_history.specs.Journals.{AsksOwn}
 use Rattle.market_node.specs.Records.{RecordState}
 
 -- the service is that of the node, and stands for the steps that came to it
-pub record IsServiceCore {Kept : Type 0} (role : Role) (holds : Kept → List Step → Type 0) (recorder : RecordState) (service : Kept) : Type 0 where
+pub record IsServiceCore {Kept : Type 0} (role : Role) (holds : Kept → List Step
+    → Type 0) (recorder : RecordState) (service : Kept) : Type 0 where
   pub node : recorder.node ≡ node_of role
   pub stands : Stands role holds service (steps_of role (inputs_of recorder.entries))
 

@@ -1,8 +1,10 @@
 //! The core of a lane.
 
-ghost use Rattle.std.specs.Prelude.{◌≡◌, ◌≢◌, ◌+◌, ◌-◌, ◌^◌, ◌<◌, ◌≤◌, drop, true, [], length, nat_lt, is_some, IfOk, OnOk, OnErr};
+ghost use Rattle.std.specs.Prelude.{◌≡◌, ◌≢◌, ◌+◌, ◌-◌, ◌^◌, ◌<◌, ◌≤◌, drop, true, [], length, nat_lt};
+ghost use Rattle.std.specs.Prelude.{is_some, IfOk, OnOk, OnErr};
 ghost use Rattle.std.specs.Option.{option_copied};
-ghost use Rattle.market_events.specs.Links.{IsLink, lane_node, sender_of, receiver_of as receiver_by_link, service_by_ask};
+ghost use Rattle.market_events.specs.Links.{IsLink, lane_node, sender_of, receiver_of as receiver_by_link};
+ghost use Rattle.market_events.specs.Links.{service_by_ask};
 ghost use Rattle.market_events.specs.Offers.{offer_of, taken_on};
 ghost use Rattle.market_events.specs.Requests.{lane_of};
 ghost use Rattle.market_events.specs.WellFormed.{IsRequest};
@@ -19,9 +21,7 @@ use crate::reading::{given_in, reply_in, told};
 use crate::recorder::Recorder;
 use crate::table::{Kept, keep, note_answer};
 use market_amounts::RequestId;
-use market_events::{
-    Body, Entry, Event, Link, Node, Offer, Reply, Request, receiver_of, service_of,
-};
+use market_events::{Body, Entry, Event, Link, Offer, Reply, Request, asking_link, lane_node};
 use market_history::{Give, Journal};
 use std::alloc::{AllocError, Global};
 use std::collections::BTreeMap;
@@ -30,10 +30,8 @@ use std::marker::Model;
 /// How many requests a lane keeps at most.
 pub const MOST_KEPT: u32 = 16_384;
 
-const LANES: u32 = 16;
-
-/// The core of a lane. It keeps each request that it asks, and its answer, for good. Contracts see the node, the entries
-/// of its journal, and how many of them are committed.
+/// The core of a lane. It keeps each request that it asks, and its answer, for good. Contracts see the node,
+/// the entries of its journal, and how many of them are committed.
 #[derive(Drop)]
 pub struct LaneCore {
     recorder: Recorder,
@@ -61,7 +59,7 @@ impl LaneCore {
         requires { lane < 16 }
         ensures { IfOk result (λ core. core ≡ record { node = lane_node lane; entries = []; committed = 0 }) }
     {
-        let recorder = Recorder::new(alloc, node_of(lane))?;
+        let recorder = Recorder::new(alloc, lane_node(lane))?;
         Ok(LaneCore {
             recorder,
             table: BTreeMap::new(alloc),
@@ -150,7 +148,8 @@ impl LaneCore {
         requires clock { clock_before self.old.entries ≤ 2 ^ 62 - 8 }
         ensures gives { IfOk result (λ give. give ≡ give_of self.old.entries request.now) }
         ensures asked { IfOk result (λ give. give ≡ Give.Asked
-            → self.new ≡ with_entries self.old (grow self.old.node self.old.entries (Arrival.Gives request.now))) }
+            → self.new
+            ≡ with_entries self.old (grow self.old.node self.old.entries (Arrival.Gives request.now))) }
         ensures other { IfOk result (λ give. give ≢ Give.Asked → self.new ≡ self.old) }
         ensures err { OnErr result (self.new ≡ self.old) }
         ensures fails_at_asked { OnErr result (give_of self.old.entries request.now ≡ Give.Asked) }
@@ -165,7 +164,8 @@ impl LaneCore {
         self.count += 1;
         self.waiting = Some(request.id);
         self.recorder.give(*request);
-        self.recorder.make(link_of(request), Body::Asked(*request));
+        self.recorder
+            .make(asking_link(request), Body::Asked(*request));
         Ok(give)
     }
 
@@ -181,7 +181,8 @@ impl LaneCore {
         ensures offers { IfOk result (λ offer. offer
             ≡ offer_of self.old.node (events_taken self.old.entries) event.now) }
         ensures taken { IfOk result (λ offer. offer ≡ Offer.Take
-            → self.new ≡ with_entries self.old (grow self.old.node self.old.entries (Arrival.Takes event.now))) }
+            → self.new
+            ≡ with_entries self.old (grow self.old.node self.old.entries (Arrival.Takes event.now))) }
         ensures other { IfOk result (λ offer. offer ≢ Offer.Take → self.new ≡ self.old) }
         ensures err { OnErr result (self.new ≡ self.old) }
         ensures fails_at_take { OnErr result (offer_of self.old.node (events_taken self.old.entries) event.now
@@ -206,24 +207,8 @@ impl LaneCore {
     }
 }
 
-// The node of a lane.
-fn node_of(lane: u8) -> Node
-    requires { lane < 16 }
-    ensures { result ≡ lane_node lane }
-{
-    receiver_of(Link::Told(0, lane))
-}
-
-// The link on which a request is asked.
-fn link_of(request: &Request) -> Link
-    ensures { result ≡ Link.Asked (lane_of request.now.id) (service_by_ask request.now.ask) }
-{
-    let lane = (request.id.caller % LANES) as u8;
-    Link::Asked(lane, service_of(&request.ask).get() as u8)
-}
-
-// What a lane does with a request, by the request that is kept with its id, whether that is answered, whether the lane
-// waits, and whether it has room.
+// What a lane does with a request, by the request that is kept with its id, whether that is answered, whether
+// the lane waits, and whether it has room.
 fn decide(
     kept: Option<&Request>,
     answered: bool,

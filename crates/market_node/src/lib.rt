@@ -1,6 +1,6 @@
-//! The cores of the nodes, without rings. A core takes the events that are offered to it and the requests that it is
-//! given, keeps its journal, and makes events: of a service, what the service answers, and of a lane, what asks the
-//! service of a request. Nothing here runs.
+//! The cores of the nodes, without rings. A core takes the events that are offered to it and the requests
+//! that it is given, keeps its journal, and makes events: of a service, what the service answers, and of a
+//! lane, what asks the service of a request. Nothing here runs.
 #![tactic(auto)]
 
 mod counting;
@@ -12,7 +12,6 @@ mod places;
 mod reading;
 mod received;
 mod recorder;
-mod slots;
 mod table;
 mod writing;
 

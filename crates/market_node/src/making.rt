@@ -1,6 +1,7 @@
 //! The events that a step of a service makes.
 
-ghost use Rattle.std.specs.Prelude.{◌≡◌, ◌+◌, ◌-◌, ◌^◌, ◌<◌, ◌≤◌, [], ◌∷◌, fold, map, length, IfSome, IfNone, IsNone};
+ghost use Rattle.std.specs.Prelude.{◌≡◌, ◌+◌, ◌-◌, ◌^◌, ◌<◌, ◌≤◌, [], ◌∷◌, fold, map, length, IfSome, IfNone};
+ghost use Rattle.std.specs.Prelude.{IsNone};
 ghost use Rattle.std.specs.List.{AllByRecursion};
 ghost use Rattle.market_history.specs.Blocks.{with_out, made_out};
 ghost use Rattle.market_history.specs.Stamps.{clock_before};
@@ -9,7 +10,8 @@ ghost use Rattle.market_node.specs.ServiceCores.{CanMake};
 use crate::recorder::Recorder;
 use market_events::{Body, Link, Outs};
 
-// Adds that the node made these events, each after those before it. It requires room for them, and takes no memory.
+// Adds that the node made these events, each after those before it. It requires room for them, and takes no
+// memory.
 pub fn make_all(recorder: &mut Recorder, outs: Outs)
     requires each { AllByRecursion (CanMake recorder.old.node) outs }
     requires room { length outs ≤ recorder.old.room }

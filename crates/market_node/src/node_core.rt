@@ -23,8 +23,8 @@ use std::marker::Model;
 // How many entries one step adds at most.
 const MOST_ENTRIES: u32 = MOST_OUTS as u32 + 1;
 
-/// The core of a service's node: the service, and its journal. Contracts see the node, the entries of its journal, and
-/// how many of them are committed. The service stands for the steps that the journal tells of.
+/// The core of a service's node: the service, and its journal. Contracts see the node, the entries of its
+/// journal, and how many of them are committed. The service stands for the steps that the journal tells of.
 #[derive(Drop)]
 pub struct NodeCore<S: Service> {
     alloc: Global,
@@ -44,7 +44,8 @@ impl<S: Service> Model for NodeCore<S> {
 }
 
 impl<S: Service> NodeCore<S> {
-    /// The core of this node, 0 to 7, with an empty journal. It requires the node's service, which took nothing yet.
+    /// The core of this node, 0 to 7, with an empty journal. It requires the node's service, which took
+    /// nothing yet.
     pub fn new(alloc: Global, node: Node, service: S) -> Result<NodeCore<S>, AllocError>
     where
         S: Drop,
@@ -110,11 +111,13 @@ impl<S: Service> NodeCore<S> {
         requires own { offer_of self.old.node (events_taken self.old.entries) event.now ≡ Offer.Take
             → AsksOwn event.now.link event.now.body }
         requires fits { offer_of self.old.node (events_taken self.old.entries) event.now ≡ Offer.Take
-            → fits S.role (steps_of S.role (inputs_of self.old.entries)) event.now.link event.now.body ≡ true }
+            → fits S.role (steps_of S.role (inputs_of self.old.entries)) event.now.link event.now.body
+            ≡ true }
         ensures offers { IfOk result (λ offer. offer
             ≡ offer_of self.old.node (events_taken self.old.entries) event.now) }
         ensures taken { IfOk result (λ offer. offer ≡ Offer.Take
-            → self.new ≡ with_entries self.old (grow self.old.node self.old.entries (Arrival.Takes event.now))) }
+            → self.new
+            ≡ with_entries self.old (grow self.old.node self.old.entries (Arrival.Takes event.now))) }
         ensures other { IfOk result (λ offer. offer ≢ Offer.Take → self.new ≡ self.old) }
         ensures err { OnErr result (self.new ≡ self.old) }
         ensures fails_at_take { OnErr result (offer_of self.old.node (events_taken self.old.entries) event.now
@@ -137,7 +140,8 @@ impl<S: Service> NodeCore<S> {
 impl<S: Tabled> NodeCore<S> {
     /// The service's cells, by rising name.
     pub fn cells(&self) -> Result<Vec<Cell>, AllocError>
-        ensures { IfOk result (λ cells. cells.items ≡ cells_of S.role (steps_of S.role (inputs_of self.now.entries))) }
+        ensures { IfOk result (λ cells. cells.items
+            ≡ cells_of S.role (steps_of S.role (inputs_of self.now.entries))) }
     {
         self.service.cells()
     }

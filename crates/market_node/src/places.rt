@@ -5,7 +5,8 @@ ghost use Rattle.std.specs.Prelude.{◌≡◌, ◌+◌, ◌-◌, ◌<◌, ◌≤
 use std::alloc::{AllocError, Global};
 use std::marker::Model;
 
-// The places of a link's events, in order. Contracts see the places, and for how many more there is room for sure.
+// The places of a link's events, in order. Contracts see the places, and for how many more there is room for
+// sure.
 #[derive(Drop)]
 pub struct Places {
     places: Vec<u32>,

@@ -3,7 +3,7 @@
 ghost use Rattle.std.specs.Prelude.{◌≡◌, is_some, IfSome};
 ghost use Rattle.std.specs.Option.{option_copied};
 ghost use Rattle.market_history.specs.Once.{reply_in as reply_by_entry};
-ghost use Rattle.market_history.specs.Sent.{made_on as made_by_entry};
+ghost use Rattle.market_history.specs.Sent.{event_made_on as made_by_entry};
 ghost use Rattle.market_node.specs.Keeping.{given_in as given_by_entry, is_told};
 
 use market_amounts::RequestId;

@@ -4,13 +4,13 @@ ghost use Rattle.std.specs.Prelude.{◌≡◌, ℕ, ◌+◌, ◌<◌, length, re
 ghost use Rattle.market_events.specs.declared.links.TheConstants.{SERVICE_LINKS};
 ghost use Rattle.market_events.specs.Links.{IsLink};
 ghost use Rattle.market_events.specs.Offers.{offer_by};
+ghost use Rattle.market_links.specs.Slots.{slot_into};
+ghost use Rattle.market_links.specs.declared.slots.TheConstants.{SLOTS};
 ghost use Rattle.market_node.specs.Notes.{raised_on};
-ghost use Rattle.market_node.specs.Slots.{slot_into, slots};
 
 use crate::counting::raise;
-use crate::slots::{SLOTS, slot_at_receiver};
 use market_events::{Counts, Event, Link, Node, Offer};
-use market_links::Receiver;
+use market_links::{Receiver, SLOTS, slot_at_receiver};
 
 // How many events were taken on each service link, and on each link into the node, by slot.
 #[derive(Drop)]
@@ -24,7 +24,7 @@ impl Received {
     pub fn new() -> Received
         ensures services { (k : ℕ) → slice_index result.services k ≡ 0 }
         ensures len { length result.services ≡ SERVICE_LINKS }
-        ensures receivers { result.receivers ≡ replicate slots 0 }
+        ensures receivers { result.receivers ≡ replicate SLOTS 0 }
     {
         Received {
             services: Counts::zero(),
@@ -35,7 +35,9 @@ impl Received {
     // What becomes of an event that is offered to the node.
     pub fn offer(&self, event: &Event, node: Node) -> Offer
         requires { IsLink event.now.link }
-        ensures { result ≡ offer_by (slice_index self.now.receivers (slot_into event.now.link)) node self.now.services event.now }
+        ensures { result
+            ≡ offer_by (slice_index self.now.receivers (slot_into event.now.link)) node self.now.services
+            event.now }
     {
         self.receivers[slot_at_receiver(event.link)].offer(event, node, &self.services)
     }

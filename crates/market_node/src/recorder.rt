@@ -1,6 +1,7 @@
 //! The record of a node: its journal, and what is noted beside it, so that an entry is added without a walk.
 
-ghost use Rattle.std.specs.Prelude.{◌≡◌, ◌+◌, ◌-◌, ◌^◌, ◌<◌, ◌≤◌, max, drop, true, [], length, IfOk, OnOk, OnErr};
+ghost use Rattle.std.specs.Prelude.{◌≡◌, ◌+◌, ◌-◌, ◌^◌, ◌<◌, ◌≤◌, max, drop, true, [], length, IfOk, OnOk};
+ghost use Rattle.std.specs.Prelude.{OnErr};
 ghost use Rattle.std.specs.Option.{option_copied};
 ghost use Rattle.market_amounts.specs.declared.keys.RequestId.{RequestId};
 ghost use Rattle.market_events.specs.Carried.{carries};
@@ -18,16 +19,16 @@ use crate::counting::raise;
 use crate::lists::Lists;
 use crate::reading::made_on;
 use crate::received::Received;
-use crate::slots::slot_at_sender;
 use crate::writing::write;
 use market_amounts::RequestId;
 use market_events::{Body, Counts, Entry, Event, Link, Node, Offer, Reply, Request, What};
 use market_history::Journal;
+use market_links::slot_at_sender;
 use std::alloc::{AllocError, Global};
 use std::marker::Model;
 
-// The record of a node. Contracts see the node, the entries of its journal, how many of them are committed, and for how
-// many more there is room for sure.
+// The record of a node. Contracts see the node, the entries of its journal, how many of them are committed,
+// and for how many more there is room for sure.
 #[derive(Drop)]
 pub struct Recorder {
     journal: Journal,
@@ -57,7 +58,8 @@ impl Model for Recorder {
 impl Recorder {
     // The record of this node, with no entry and no room.
     pub fn new(alloc: Global, node: Node) -> Result<Recorder, AllocError>
-        ensures { IfOk result (λ recorder. recorder ≡ record { node = node; entries = []; committed = 0; room = 0 }) }
+        ensures { IfOk result (λ recorder. recorder
+            ≡ record { node = node; entries = []; committed = 0; room = 0 }) }
     {
         let _number = node.get();
         let lists = Lists::new(alloc)?;
@@ -134,7 +136,9 @@ impl Recorder {
         requires room { 0 < self.old.room }
         requires few { length self.old.entries < 4_294_967_295 }
         requires clock { max (clock_before self.old.entries) event.clock < 2 ^ 62 }
-        ensures { self.new ≡ record self.old { entries = with_what self.old.entries (What.Taken event); room = self.old.room - 1 } }
+        ensures { self.new
+            ≡ record self.old
+            { entries = with_what self.old.entries (What.Taken event); room = self.old.room - 1 } }
     {
         self.received.advance(&event);
         self.known.merge(&event.past);
@@ -148,8 +152,8 @@ impl Recorder {
         write(&mut self.journal, entry);
     }
 
-    // Adds that the node made an event of this body on a link that leads out of it, with the next number. It requires
-    // room, and takes no memory.
+    // Adds that the node made an event of this body on a link that leads out of it, with the next number. It
+    // requires room, and takes no memory.
     pub fn make(&mut self, link: Link, body: Body)
         requires link { IsLink link }
         requires from { sender_of link ≡ self.old.node }
@@ -159,7 +163,9 @@ impl Recorder {
         requires room { 0 < self.old.room }
         requires few { length self.old.entries < 4_294_967_295 }
         requires clock { clock_before self.old.entries < 2 ^ 62 }
-        ensures { self.new ≡ record self.old { entries = with_out self.old.entries (Out.Makes link body); room = self.old.room - 1 } }
+        ensures { self.new
+            ≡ record self.old
+            { entries = with_out self.old.entries (Out.Makes link body); room = self.old.room - 1 } }
     {
         let slot = slot_at_sender(link);
         let number = self.lists.len(slot) as u32 + 1;
@@ -189,7 +195,9 @@ impl Recorder {
         requires room { 0 < self.old.room }
         requires few { length self.old.entries < 4_294_967_295 }
         requires clock { clock_before self.old.entries < 2 ^ 62 }
-        ensures { self.new ≡ record self.old { entries = with_what self.old.entries (What.Given request); room = self.old.room - 1 } }
+        ensures { self.new
+            ≡ record self.old
+            { entries = with_what self.old.entries (What.Given request); room = self.old.room - 1 } }
     {
         self.clock += 1;
         self.room -= 1;
@@ -209,7 +217,9 @@ impl Recorder {
         requires room { 0 < self.old.room }
         requires few { length self.old.entries < 4_294_967_295 }
         requires clock { clock_before self.old.entries < 2 ^ 62 }
-        ensures { self.new ≡ record self.old { entries = with_what self.old.entries (What.Answered id reply); room = self.old.room - 1 } }
+        ensures { self.new
+            ≡ record self.old
+            { entries = with_what self.old.entries (What.Answered id reply); room = self.old.room - 1 } }
     {
         self.clock += 1;
         self.room -= 1;

@@ -3,7 +3,7 @@
 ghost use Rattle.std.specs.Prelude.{◌≡◌, OnOk, OnErr, if◌then◌else◌};
 ghost use Rattle.market_amounts.specs.declared.keys.RequestId.{RequestId};
 ghost use Rattle.market_events.specs.Requests.{same_id};
-ghost use Rattle.market_node.specs.Keeping.{kept_at, newly_kept, with_answer};
+ghost use Rattle.market_node.specs.Keeping.{newly_kept, with_answer, request_places_at};
 
 use market_amounts::RequestId;
 use std::alloc::AllocError;
@@ -22,8 +22,8 @@ pub fn keep(
     id: RequestId,
     given: u32,
 ) -> Result<(), AllocError>
-    ensures each { OnOk result ((other : RequestId) → kept_at table.new.entries other
-        ≡ (if same_id id other then Some (newly_kept given) else kept_at table.old.entries other)) }
+    ensures each { OnOk result ((other : RequestId) → request_places_at table.new.entries other
+        ≡ (if same_id id other then Some (newly_kept given) else request_places_at table.old.entries other)) }
     ensures err { OnErr result (table.new.entries ≡ table.old.entries) }
 {
     let kept = Kept {
@@ -36,8 +36,9 @@ pub fn keep(
 
 // Says at which place a kept request was answered. It takes no memory.
 pub fn note_answer(table: &mut BTreeMap<RequestId, Kept>, id: RequestId, place: u32)
-    ensures { (other : RequestId) → kept_at table.new.entries other
-        ≡ (if same_id id other then with_answer place (kept_at table.old.entries other) else kept_at table.old.entries other) }
+    ensures { (other : RequestId) → request_places_at table.new.entries other
+        ≡ (if same_id id other then with_answer place (request_places_at table.old.entries other) else
+        request_places_at table.old.entries other) }
 {
     if let Some(kept) = table.get_mut(&id) {
         kept.answered = Some(place);

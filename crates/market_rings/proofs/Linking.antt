@@ -3,7 +3,8 @@ use Rattle.std.proofs.Common.{◌≡◌, ◌<◌, ap, arith}
 use Rattle.market_events.specs.declared.links.Link.{Link}
 use Rattle.market_events.specs.declared.links.Link.TheVariants.{Service, Asked, Told}
 use Rattle.market_events.specs.Links.{IsLink, index_of, sender_of, receiver_of}
-use Rattle.market_rings.specs.Slots.{slots, slot_from, slot_into}
+use Rattle.market_links.specs.Slots.{slot_into, slot_from}
+use Rattle.market_links.specs.declared.slots.TheConstants.{SLOTS}
 
 -- links with one index are one
 pub one_index : (a b : Link) → IsLink a → IsLink b → index_of a ≡ index_of b → a ≡ b
@@ -47,12 +48,12 @@ one_receiver (Told s i) (Service n) one two to slot = absurd (omega (arith, two)
 one_receiver (Asked i s) (Told t j) one two to slot = absurd (omega (arith, one.1))
 one_receiver (Told s i) (Asked j t) one two to slot = absurd (omega (arith, two.1))
 
-pub slot_from_small : (link : Link) → IsLink link → slot_from link < slots
+pub slot_from_small : (link : Link) → IsLink link → slot_from link < SLOTS
 slot_from_small (Service n) on = omega (arith, on)
 slot_from_small (Asked lane s) on = omega (arith, on.1)
 slot_from_small (Told s lane) on = omega (arith, on.1)
 
-pub slot_into_small : (link : Link) → IsLink link → slot_into link < slots
+pub slot_into_small : (link : Link) → IsLink link → slot_into link < SLOTS
 slot_into_small (Service n) on = omega (arith, on)
 slot_into_small (Asked lane s) on = omega (arith, on.0)
 slot_into_small (Told s lane) on = omega (arith, on.0)

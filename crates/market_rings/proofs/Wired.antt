@@ -4,10 +4,12 @@ use Rattle.std.proofs.lemmas.List.{length-set, length-replicate, get_or-set_same
 use Rattle.std.proofs.lemmas.Bool.Decides.{nat_tests}
 use Rattle.market_events.specs.declared.links.Link.{Link}
 use Rattle.market_events.specs.Links.{IsLink, index_of, sender_of, receiver_of}
+use Rattle.market_events.specs.declared.nodes.TheConstants.{NODES}
+use Rattle.market_links.specs.Slots.{slot_into, slot_from}
+use Rattle.market_links.specs.declared.slots.TheConstants.{SLOTS}
 use Rattle.market_rings.specs.LinkEnds.{IsNewLink}
-use Rattle.market_rings.specs.NodeEnds.{NodeEnds, no_ends, out_at, in_at, with_out, with_in}
-use Rattle.market_rings.specs.Slots.{slots, slot_from, slot_into}
-use Rattle.market_rings.specs.Wiring.{nodes, ends_of, IsWired, HasLinkOut, HasLinkIn, AreWired, with_sender, with_receiver}
+use Rattle.market_rings.specs.NodeEnds.{NodeEnds, no_ends, out_at, in_at, with_in, with_link_out}
+use Rattle.market_rings.specs.Wiring.{ends_of, IsWired, HasLinkOut, HasLinkIn, AreWired, with_sender, with_receiver}
 use Rattle.market_rings.specs.declared.link_ends.LinkOut.{LinkOut}
 use Rattle.market_rings.specs.declared.link_ends.LinkIn.{LinkIn}
 use Rattle.market_rings.proofs.Linking.{one_index, one_sender, one_receiver, slot_from_small, slot_into_small}
@@ -20,10 +22,10 @@ at_set xs i j x d true test within =
 at_set xs i j x d false test within =
     let differs : j ≢ i = grind (arith, nat_tests) in get_or-set_other xs i j x d differs
 
-out_at_set : (ends : NodeEnds) (t slot : ℕ) (out : LinkOut) (b : Bool) → (t == slot) ≡ b → length ends.outs ≡ slots → t < slots → out_at (with_out ends t out) slot ≡ (if b then Some out else out_at ends slot)
+out_at_set : (ends : NodeEnds) (t slot : ℕ) (out : LinkOut) (b : Bool) → (t == slot) ≡ b → length ends.outs ≡ SLOTS → t < SLOTS → out_at (with_link_out ends t out) slot ≡ (if b then Some out else out_at ends slot)
 out_at_set ends t slot out b test long within = at_set ends.outs t slot (Some out) None b test (omega arith)
 
-in_at_set : (ends : NodeEnds) (t slot : ℕ) (into : LinkIn) (b : Bool) → (t == slot) ≡ b → length ends.ins ≡ slots → t < slots → in_at (with_in ends t into) slot ≡ (if b then Some into else in_at ends slot)
+in_at_set : (ends : NodeEnds) (t slot : ℕ) (into : LinkIn) (b : Bool) → (t == slot) ≡ b → length ends.ins ≡ SLOTS → t < SLOTS → in_at (with_in ends t into) slot ≡ (if b then Some into else in_at ends slot)
 in_at_set ends t slot into b test long within = at_set ends.ins t slot (Some into) None b test (omega arith)
 
 abbrev no_out_end : Option LinkOut
@@ -34,8 +36,8 @@ no_in_end = None
 
 -- an end is put at the sender
 module _ (all : List NodeEnds) (link : Link) (is_link : IsLink link) (out : LinkOut) (within : sender_of link < length all) where
-  at_sender_node : (node : ℕ) (b : Bool) → (sender_of link == node) ≡ b → ends_of (with_sender all link out) node ≡ (if b then with_out (ends_of all (sender_of link)) (slot_from link) out else ends_of all node)
-  at_sender_node node b test = at_set all (sender_of link) node (with_out (ends_of all (sender_of link)) (slot_from link) out) no_ends b test within
+  at_sender_node : (node : ℕ) (b : Bool) → (sender_of link == node) ≡ b → ends_of (with_sender all link out) node ≡ (if b then with_link_out (ends_of all (sender_of link)) (slot_from link) out else ends_of all node)
+  at_sender_node node b test = at_set all (sender_of link) node (with_link_out (ends_of all (sender_of link)) (slot_from link) out) no_ends b test within
 
   pub sender_keeps_ins : (node : ℕ) → (ends_of (with_sender all link out) node).ins ≡ (ends_of all node).ins
   sender_keeps_ins node = by_case (sender_of link == node) refl
@@ -56,13 +58,13 @@ module _ (all : List NodeEnds) (link : Link) (is_link : IsLink link) (out : Link
           ∙ length-set (ends_of all (sender_of link)).outs (slot_from link) (Some out) ∙ ap (λ n. length (ends_of all n).outs) e
       by_case false test = ap (λ (x : NodeEnds). length x.outs) (at_sender_node node false test)
 
-  pub out_here : length (ends_of all (sender_of link)).outs ≡ slots → out_at (ends_of (with_sender all link out) (sender_of link)) (slot_from link) ≡ Some out
+  pub out_here : length (ends_of all (sender_of link)).outs ≡ SLOTS → out_at (ends_of (with_sender all link out) (sender_of link)) (slot_from link) ≡ Some out
   out_here long =
       ap (λ (x : NodeEnds). out_at x (slot_from link)) (at_sender_node (sender_of link) true (grind (arith, nat_tests)))
       ∙ out_at_set (ends_of all (sender_of link)) (slot_from link) (slot_from link) out true (grind (arith, nat_tests)) long (slot_from_small link is_link)
 
   -- elsewhere all is as before
-  pub out_elsewhere : (node slot : ℕ) → length (ends_of all (sender_of link)).outs ≡ slots → (sender_of link ≡ node → slot_from link ≢ slot) → out_at (ends_of (with_sender all link out) node) slot ≡ out_at (ends_of all node) slot
+  pub out_elsewhere : (node slot : ℕ) → length (ends_of all (sender_of link)).outs ≡ SLOTS → (sender_of link ≡ node → slot_from link ≢ slot) → out_at (ends_of (with_sender all link out) node) slot ≡ out_at (ends_of all node) slot
   out_elsewhere node slot long other = by_case (sender_of link == node) refl
     where
       by_case : (b : Bool) → (sender_of link == node) ≡ b → out_at (ends_of (with_sender all link out) node) slot ≡ out_at (ends_of all node) slot
@@ -99,13 +101,13 @@ module _ (all : List NodeEnds) (link : Link) (is_link : IsLink link) (into : Lin
           ∙ length-set (ends_of all (receiver_of link)).ins (slot_into link) (Some into) ∙ ap (λ n. length (ends_of all n).ins) e
       by_case false test = ap (λ (x : NodeEnds). length x.ins) (at_receiver_node node false test)
 
-  pub in_here : length (ends_of all (receiver_of link)).ins ≡ slots → in_at (ends_of (with_receiver all link into) (receiver_of link)) (slot_into link) ≡ Some into
+  pub in_here : length (ends_of all (receiver_of link)).ins ≡ SLOTS → in_at (ends_of (with_receiver all link into) (receiver_of link)) (slot_into link) ≡ Some into
   in_here long =
       ap (λ (x : NodeEnds). in_at x (slot_into link)) (at_receiver_node (receiver_of link) true (grind (arith, nat_tests)))
       ∙ in_at_set (ends_of all (receiver_of link)) (slot_into link) (slot_into link) into true (grind (arith, nat_tests)) long (slot_into_small link is_link)
 
   -- elsewhere all is as before
-  pub in_elsewhere : (node slot : ℕ) → length (ends_of all (receiver_of link)).ins ≡ slots → (receiver_of link ≡ node → slot_into link ≢ slot) → in_at (ends_of (with_receiver all link into) node) slot ≡ in_at (ends_of all node) slot
+  pub in_elsewhere : (node slot : ℕ) → length (ends_of all (receiver_of link)).ins ≡ SLOTS → (receiver_of link ≡ node → slot_into link ≢ slot) → in_at (ends_of (with_receiver all link into) node) slot ≡ in_at (ends_of all node) slot
   in_elsewhere node slot long other = by_case (receiver_of link == node) refl
     where
       by_case : (b : Bool) → (receiver_of link == node) ≡ b → in_at (ends_of (with_receiver all link into) node) slot ≡ in_at (ends_of all node) slot
@@ -119,11 +121,11 @@ module _ (all : List NodeEnds) (link : Link) (is_link : IsLink link) (into : Lin
       by_case false test = ap (λ (x : NodeEnds). in_at x slot) (at_receiver_node node false test)
 
 -- no ends anywhere
-pub none_wired : (all : List NodeEnds) → all ≡ replicate nodes no_ends → AreWired all 0
+pub none_wired : (all : List NodeEnds) → all ≡ replicate NODES no_ends → AreWired all 0
 none_wired all is = record {
-  many = ap length is ∙ length-replicate nodes no_ends;
-  outs_long = λ node. ap (λ (x : NodeEnds). length x.outs) (empty node) ∙ length-replicate slots no_out_end;
-  ins_long = λ node. ap (λ (x : NodeEnds). length x.ins) (empty node) ∙ length-replicate slots no_in_end;
+  many = ap length is ∙ length-replicate NODES no_ends;
+  outs_long = λ node. ap (λ (x : NodeEnds). length x.outs) (empty node) ∙ length-replicate SLOTS no_out_end;
+  ins_long = λ node. ap (λ (x : NodeEnds). length x.ins) (empty node) ∙ length-replicate SLOTS no_in_end;
   wired = λ link is_link below. absurd (omega (arith, below));
   outs = λ node slot out there. absurd (no_out slot out (sym (ap (λ (x : NodeEnds). out_at x slot) (empty node)) ∙ there));
   ins = λ node slot into there. absurd (no_in slot into (sym (ap (λ (x : NodeEnds). in_at x slot) (empty node)) ∙ there));
@@ -136,19 +138,19 @@ none_wired all is = record {
         get_or_past (replicate n a) i a (omega (arith, length-replicate n a))
 
     empty : (node : ℕ) → ends_of all node ≡ no_ends
-    empty node = ap (λ (xs : List NodeEnds). slice_index_or xs node no_ends) is ∙ same nodes node no_ends (nat_lt node nodes) refl
+    empty node = ap (λ (xs : List NodeEnds). slice_index_or xs node no_ends) is ∙ same NODES node no_ends (nat_lt node NODES) refl
 
     no_out : (slot : ℕ) (out : LinkOut) → out_at no_ends slot ≡ Some out → ⊥
-    no_out slot out there = let none = same slots slot no_out_end (nat_lt slot slots) refl in cc
+    no_out slot out there = let none = same SLOTS slot no_out_end (nat_lt slot SLOTS) refl in cc
 
     no_in : (slot : ℕ) (into : LinkIn) → in_at no_ends slot ≡ Some into → ⊥
-    no_in slot into there = let none = same slots slot no_in_end (nat_lt slot slots) refl in cc
+    no_in slot into there = let none = same SLOTS slot no_in_end (nat_lt slot SLOTS) refl in cc
 
 -- one link more is wired
-pub one_more : (all : List NodeEnds) (link : Link) (out : LinkOut) (into : LinkIn) → IsLink link → sender_of link < nodes → receiver_of link < nodes → IsNewLink out into → AreWired all (index_of link) → AreWired (with_receiver (with_sender all link out) link into) (index_of link + 1)
+pub one_more : (all : List NodeEnds) (link : Link) (out : LinkOut) (into : LinkIn) → IsLink link → sender_of link < NODES → receiver_of link < NODES → IsNewLink out into → AreWired all (index_of link) → AreWired (with_receiver (with_sender all link out) link into) (index_of link + 1)
 one_more all link out into is_link sender receiver fresh before = record {
   many = length-set (with_sender all link out) (receiver_of link) (with_in (ends_of (with_sender all link out) (receiver_of link)) (slot_into link) into)
-      ∙ length-set all (sender_of link) (with_out (ends_of all (sender_of link)) (slot_from link) out) ∙ before.many;
+      ∙ length-set all (sender_of link) (with_link_out (ends_of all (sender_of link)) (slot_from link) out) ∙ before.many;
   outs_long = λ node. ap length (kept_outs node) ∙ sender_keeps_long all link is_link out from node ∙ before.outs_long node;
   ins_long = λ node. receiver_keeps_long half link is_link into to node ∙ long_ins node;
   wired = λ other is_other below. by_index other is_other below (index_of other == index_of link) refl;
@@ -163,9 +165,9 @@ one_more all link out into is_link sender receiver fresh before = record {
     from = omega (arith, before.many)
 
     to : receiver_of link < length half
-    to = omega (arith, length-set all (sender_of link) (with_out (ends_of all (sender_of link)) (slot_from link) out), before.many)
+    to = omega (arith, length-set all (sender_of link) (with_link_out (ends_of all (sender_of link)) (slot_from link) out), before.many)
 
-    long_ins : (node : ℕ) → length (ends_of half node).ins ≡ slots
+    long_ins : (node : ℕ) → length (ends_of half node).ins ≡ SLOTS
     long_ins node = ap length (sender_keeps_ins all link is_link out from node) ∙ before.ins_long node
 
     kept_outs : (node : ℕ) → (ends_of (with_receiver half link into) node).outs ≡ (ends_of half node).outs

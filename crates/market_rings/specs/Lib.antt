@@ -3,6 +3,5 @@ pub mod LinkEnds
 pub mod NodeEnds
 pub mod Pushes
 pub mod RingEnds
-pub mod Slots
 pub mod Views
 pub mod Wiring

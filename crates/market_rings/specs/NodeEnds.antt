@@ -1,11 +1,13 @@
 -- The ends of rings at a node.
-use Rattle.std.specs.Prelude.{◌≡◌, ℕ, ◌≤◌, List, [], ◌∷◌, Option, Some, None, replicate, slice_index_or, slice_set}
+use Rattle.std.specs.Prelude.{◌≡◌, ℕ, ◌≤◌, List, [], ◌∷◌, Option, Some, None, replicate, slice_index_or}
+use Rattle.std.specs.Prelude.{slice_set}
 use Rattle.market_events.specs.declared.links.Link.{Link}
 use Rattle.market_events.specs.declared.events.Event.{Event}
+use Rattle.market_links.specs.Slots.{slot_into, slot_from}
+use Rattle.market_links.specs.declared.slots.TheConstants.{SLOTS}
 use Rattle.market_rings.specs.declared.fates.Fate.{Fate}
 use Rattle.market_rings.specs.LinkEnds.{AreOfOneLink, HasMet}
 use Rattle.market_rings.specs.RingEnds.{most_pushed, with_sent, with_all_popped}
-use Rattle.market_rings.specs.Slots.{slots, slot_from, slot_into}
 use Rattle.market_rings.specs.declared.link_ends.LinkOut.{LinkOut}
 use Rattle.market_rings.specs.declared.link_ends.LinkIn.{LinkIn}
 
@@ -15,7 +17,7 @@ pub record NodeEnds : Type 0 where
   pub ins : List (Option LinkIn)
 
 abbrev pub no_ends : NodeEnds
-no_ends = record { outs = replicate slots None; ins = replicate slots None }
+no_ends = record { outs = replicate SLOTS None; ins = replicate SLOTS None }
 
 abbrev pub out_at : NodeEnds → ℕ → Option LinkOut
 out_at ends slot = slice_index_or ends.outs slot None
@@ -23,8 +25,8 @@ out_at ends slot = slice_index_or ends.outs slot None
 abbrev pub in_at : NodeEnds → ℕ → Option LinkIn
 in_at ends slot = slice_index_or ends.ins slot None
 
-abbrev pub with_out : NodeEnds → ℕ → LinkOut → NodeEnds
-with_out ends slot out = record ends { outs = slice_set ends.outs slot (Some out) }
+abbrev pub with_link_out : NodeEnds → ℕ → LinkOut → NodeEnds
+with_link_out ends slot out = record ends { outs = slice_set ends.outs slot (Some out) }
 
 abbrev pub with_in : NodeEnds → ℕ → LinkIn → NodeEnds
 with_in ends slot into = record ends { ins = slice_set ends.ins slot (Some into) }
@@ -47,7 +49,7 @@ pub record HaveMet (from to new_from new_to : NodeEnds) (link : Link) : Type 0 w
   pub at_sender : out_at from (slot_from link) ≡ Some out
   pub at_receiver : in_at to (slot_into link) ≡ Some into
   pub met : HasMet out into new_out new_into
-  pub sender : new_from ≡ with_out from (slot_from link) new_out
+  pub sender : new_from ≡ with_link_out from (slot_from link) new_out
   pub receiver : new_to ≡ with_in to (slot_into link) new_into
 
 -- the node has the ends of a link out of it, with room for these events and for what is held
@@ -63,16 +65,20 @@ pub record CanSendCount (ends : NodeEnds) (link : Link) : Type 0 where
   pub room : most_pushed (0 ∷ []) into.counts.held ≤ into.counts.free
 
 -- events were sent on the link with these fates, and nothing else changed
-pub record HaveSentEvents (before after : NodeEnds) (link : Link) (events : List Event) (fates : List Fate) : Type 0 where
+pub record HaveSentEvents (before after : NodeEnds) (link : Link) (events : List Event) (fates : List Fate) :
+    Type 0 where
   pub out : LinkOut
   pub there : out_at before (slot_from link) ≡ Some out
-  pub sent : after ≡ with_out before (slot_from link) (record out { events = with_sent out.events events fates })
+  pub sent : after
+      ≡ with_link_out before (slot_from link) (record out { events = with_sent out.events events fates })
 
 -- a count was sent back on the link with the first of these fates, and nothing else changed
-pub record HaveSentCount (before after : NodeEnds) (link : Link) (count : ℕ) (fates : List Fate) : Type 0 where
-  pub into : LinkIn
-  pub there : in_at before (slot_into link) ≡ Some into
-  pub sent : after ≡ with_in before (slot_into link) (record into { counts = with_sent into.counts (count ∷ []) fates })
+pub record HaveSentCount (before after : NodeEnds) (link : Link) (count : ℕ) (fates : List Fate) : Type 0
+  where
+    pub into : LinkIn
+    pub there : in_at before (slot_into link) ≡ Some into
+    pub sent : after
+        ≡ with_in before (slot_into link) (record into { counts = with_sent into.counts (count ∷ []) fates })
 
 -- these events are all that waited on the link, and nothing else changed
 pub record HaveTakenEvents (before after : NodeEnds) (link : Link) (events : List Event) : Type 0 where
@@ -86,4 +92,5 @@ pub record HaveTakenCounts (before after : NodeEnds) (link : Link) (counts : Lis
   pub out : LinkOut
   pub there : out_at before (slot_from link) ≡ Some out
   pub all : counts ≡ out.counts.waiting
-  pub taken : after ≡ with_out before (slot_from link) (record out { counts = with_all_popped out.counts })
+  pub taken : after
+      ≡ with_link_out before (slot_from link) (record out { counts = with_all_popped out.counts })

@@ -34,17 +34,24 @@ pub record Popping (T : Type 0) : Type 0 where
 module _ {T : Type 0} where
   -- with a packet more
   abbrev pub with_pushed : Pushing T → List T → Pushing T
-  with_pushed outlet packets = record outlet { pushed = outlet.pushed ++ packets; free = outlet.free - length packets }
+  with_pushed outlet packets =
+      record outlet { pushed = outlet.pushed ++ packets; free = outlet.free - length packets }
 
   -- one packet met its fate
   abbrev pub IsMet : Pushing T → T → Fate → Pushing T → Type 0
   IsMet before packet fate after =
-      after ≡ record (with_pushed before (pushed_at_once fate packet)) { held = before.held ++ held_back fate packet }
+      after ≡ record (with_pushed before (pushed_at_once fate packet)) {
+        held = before.held
+            ++ held_back fate packet;
+      }
 
   -- the packets met the fates
   abbrev pub AreMet : Pushing T → List T → List Fate → Pushing T → Type 0
   AreMet before packets fates after =
-      after ≡ record (with_pushed before (pushed_of packets fates)) { held = before.held ++ held_after packets fates }
+      after ≡ record (with_pushed before (pushed_of packets fates)) {
+        held = before.held
+            ++ held_after packets fates;
+      }
 
   -- how many packets can be pushed where these are sent and those are held
   abbrev pub most_pushed : List T → List T → ℕ
@@ -64,11 +71,13 @@ module _ {T : Type 0} where
 
   -- the two ends of a ring on which nothing was pushed
   abbrev pub AreNew : Pushing T → Popping T → Type 0
-  AreNew outlet inlet = (outlet ≡ record { ring = inlet.ring; pushed = []; held = []; free = 64 }) × (inlet.popped ≡ []) × (inlet.waiting ≡ [])
+  AreNew outlet inlet = (outlet ≡ record { ring = inlet.ring; pushed = []; held = []; free = 64 })
+      × (inlet.popped ≡ []) × (inlet.waiting ≡ [])
 
   -- what was popped and what waits is now what was pushed, all other slots are known to be free, and nothing
   -- else changed
-  pub record IsLooked (outlet : Pushing T) (inlet : Popping T) (new_outlet : Pushing T) (new_inlet : Popping T) : Type 0 where
+  pub record IsLooked (outlet : Pushing T) (inlet : Popping T) (new_outlet : Pushing T)
+      (new_inlet : Popping T) : Type 0 where
     pub waiting : new_inlet.popped ++ new_inlet.waiting ≡ outlet.pushed
     pub free : new_outlet.free + length new_inlet.waiting ≡ 64
     pub same_outlet : new_outlet ≡ record outlet { free = new_outlet.free }

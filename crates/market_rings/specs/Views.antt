@@ -8,7 +8,13 @@ use Rattle.market_rings.specs.declared.inlets.Inlet.TheInside as inlet
 module _ {T : Type 0} where
   abbrev pub pushing_of : outlet.Inside T → Pushing T
   pushing_of a = record {
-    ring = record { words = a.producer.end.words; slots = a.producer.end.slots; names = a.producer.end.names; heap = a.producer.end.heap };
+    ring =
+        record {
+          words = a.producer.end.words;
+          slots = a.producer.end.slots;
+          names = a.producer.end.names;
+          heap = a.producer.end.heap;
+        };
     pushed = sent a.producer;
     held = a.held.items;
     free = a.free;
@@ -20,7 +26,13 @@ module _ {T : Type 0} where
 
   abbrev pub popping_of : inlet.Inside T → Popping T
   popping_of a = record {
-    ring = record { words = a.consumer.end.words; slots = a.consumer.end.slots; names = a.consumer.end.names; heap = a.consumer.end.heap };
+    ring =
+        record {
+          words = a.consumer.end.words;
+          slots = a.consumer.end.slots;
+          names = a.consumer.end.names;
+          heap = a.consumer.end.heap;
+        };
     popped = received a.consumer;
     waiting = known_items a.consumer;
   }

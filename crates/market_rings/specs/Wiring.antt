@@ -2,19 +2,13 @@
 use Rattle.std.specs.Prelude.{◌≡◌, ℕ, ◌<◌, List, Some, length, slice_index_or, slice_set}
 use Rattle.market_events.specs.declared.links.Link.{Link}
 use Rattle.market_events.specs.Links.{IsLink, index_of, sender_of, receiver_of}
+use Rattle.market_events.specs.declared.nodes.TheConstants.{NODES}
+use Rattle.market_links.specs.Slots.{slot_into, slot_from}
+use Rattle.market_links.specs.declared.slots.TheConstants.{SLOTS}
 use Rattle.market_rings.specs.LinkEnds.{IsNewLink}
-use Rattle.market_rings.specs.NodeEnds.{NodeEnds, no_ends, out_at, in_at, with_out, with_in}
-use Rattle.market_rings.specs.Slots.{slots, slot_from, slot_into}
+use Rattle.market_rings.specs.NodeEnds.{NodeEnds, no_ends, out_at, in_at, with_in, with_link_out}
 use Rattle.market_rings.specs.declared.link_ends.LinkOut.{LinkOut}
 use Rattle.market_rings.specs.declared.link_ends.LinkIn.{LinkIn}
-
--- how many nodes there are
-abbrev pub nodes : ℕ
-nodes = 24
-
--- how many links there are
-abbrev pub links_many : ℕ
-links_many = 272
 
 -- the ends at a node
 abbrev pub ends_of : List NodeEnds → ℕ → NodeEnds
@@ -44,16 +38,19 @@ pub record HasLinkIn (node slot : ℕ) : Type 0 where
 
 -- the links with the first indices are wired, and there are no other ends
 pub record AreWired (all : List NodeEnds) (count : ℕ) : Type 0 where
-  pub many : length all ≡ nodes
-  pub outs_long : (node : ℕ) → length (ends_of all node).outs ≡ slots
-  pub ins_long : (node : ℕ) → length (ends_of all node).ins ≡ slots
+  pub many : length all ≡ NODES
+  pub outs_long : (node : ℕ) → length (ends_of all node).outs ≡ SLOTS
+  pub ins_long : (node : ℕ) → length (ends_of all node).ins ≡ SLOTS
   pub wired : (link : Link) → IsLink link → index_of link < count → IsWired all link
-  pub outs : (node slot : ℕ) (out : LinkOut) → out_at (ends_of all node) slot ≡ Some out → HasLinkOut node slot
+  pub outs : (node slot : ℕ) (out : LinkOut) → out_at (ends_of all node) slot ≡ Some out
+      → HasLinkOut node slot
   pub ins : (node slot : ℕ) (into : LinkIn) → in_at (ends_of all node) slot ≡ Some into → HasLinkIn node slot
 
 -- with the ends of a link at its sender and at its receiver
 abbrev pub with_sender : List NodeEnds → Link → LinkOut → List NodeEnds
-with_sender all link out = slice_set all (sender_of link) (with_out (ends_of all (sender_of link)) (slot_from link) out)
+with_sender all link out =
+    slice_set all (sender_of link) (with_link_out (ends_of all (sender_of link)) (slot_from link) out)
 
 abbrev pub with_receiver : List NodeEnds → Link → LinkIn → List NodeEnds
-with_receiver all link into = slice_set all (receiver_of link) (with_in (ends_of all (receiver_of link)) (slot_into link) into)
+with_receiver all link into =
+    slice_set all (receiver_of link) (with_in (ends_of all (receiver_of link)) (slot_into link) into)

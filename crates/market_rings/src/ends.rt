@@ -2,17 +2,20 @@
 
 ghost use Rattle.std.specs.Prelude.{◌≡◌, ◌<◌, ◌≤◌, [], ◌∷◌, None, Some, replicate, IsSome, IfOk, OnOk};
 ghost use Rattle.market_events.specs.Links.{IsLink};
-ghost use Rattle.market_rings.specs.NodeEnds.{no_ends, out_at, in_at, with_out, with_in, AreJoined, HaveMet, CanSendEvents, CanSendCount, HaveSentEvents, HaveSentCount, HaveTakenEvents, HaveTakenCounts};
+ghost use Rattle.market_links.specs.Slots.{slot_into, slot_from};
+ghost use Rattle.market_links.specs.declared.slots.TheConstants.{SLOTS};
+ghost use Rattle.market_rings.specs.NodeEnds.{no_ends, out_at, in_at, with_in, AreJoined, HaveMet};
+ghost use Rattle.market_rings.specs.NodeEnds.{CanSendEvents, CanSendCount, HaveSentEvents, HaveSentCount};
+ghost use Rattle.market_rings.specs.NodeEnds.{HaveTakenEvents, HaveTakenCounts, with_link_out};
 ghost use Rattle.market_rings.specs.Fates.{fates_at, with_fates};
 ghost use Rattle.market_rings.specs.Pushes.{fates_left, fates_after_one};
 ghost use Rattle.market_rings.specs.RingEnds.{most_pushed, with_sent};
-ghost use Rattle.market_rings.specs.Slots.{slots, slot_from, slot_into};
 ghost use Rattle.market_rings.specs.declared.fates.Way.TheVariants.{Carry, Ack};
 
 use crate::fates::Fates;
 use crate::link_ends::{LinkIn, LinkOut, meet_link};
-use crate::slots::{SLOTS, slot_at_receiver, slot_at_sender};
 use market_events::{Event, Link};
+use market_links::{SLOTS, slot_at_receiver, slot_at_sender};
 use std::alloc::{AllocError, Global};
 use std::marker::Model;
 
@@ -26,14 +29,14 @@ pub struct Ends {
 
 impl Model for Ends {
     ghost use Rattle.std.specs.Prelude.{◌≡◌, length};
+    ghost use Rattle.market_links.specs.declared.slots.TheConstants.{SLOTS};
     ghost use Rattle.market_rings.specs.NodeEnds.{NodeEnds};
-    ghost use Rattle.market_rings.specs.Slots.{slots};
 
     ghost Value = { NodeEnds };
 
     ghost view = { λ a. record { outs = a.outs.items; ins = a.ins.items } };
 
-    ghost invariant = { λ a. (length a.outs.items ≡ slots) × (length a.ins.items ≡ slots) };
+    ghost invariant = { λ a. (length a.outs.items ≡ SLOTS) × (length a.ins.items ≡ SLOTS) };
 }
 
 impl Ends {
@@ -54,15 +57,15 @@ impl Ends {
 
     // Puts the ends of a link out of the node into its slot.
     pub(crate) fn put_out(&mut self, slot: usize, out: LinkOut)
-        requires { slot < slots }
-        ensures { self.new ≡ with_out self.old slot out }
+        requires { slot < SLOTS }
+        ensures { self.new ≡ with_link_out self.old slot out }
     {
         self.outs[slot] = Some(out);
     }
 
     // Puts the ends of a link into the node into its slot.
     pub(crate) fn put_in(&mut self, slot: usize, into: LinkIn)
-        requires { slot < slots }
+        requires { slot < SLOTS }
         ensures { self.new ≡ with_in self.old slot into }
     {
         self.ins[slot] = Some(into);
@@ -81,8 +84,11 @@ impl Ends {
     ) -> Result<(), AllocError>
         requires link { IsLink link }
         requires can { CanSendEvents self.old link events.now }
-        ensures sent { OnOk result (HaveSentEvents self.old self.new link events.now (fates_at fates.old Carry (slot_from link))) }
-        ensures fates { OnOk result (fates.new ≡ with_fates fates.old Carry (slot_from link) (fates_left events.now (fates_at fates.old Carry (slot_from link)))) }
+        ensures sent { OnOk result
+            (HaveSentEvents self.old self.new link events.now (fates_at fates.old Carry (slot_from link))) }
+        ensures fates { OnOk result (fates.new
+            ≡ with_fates fates.old Carry (slot_from link)
+            (fates_left events.now (fates_at fates.old Carry (slot_from link)))) }
     {
         let slot = slot_at_sender(link);
         let Some(out) = &mut self.outs[slot] else {
@@ -103,8 +109,11 @@ impl Ends {
     ) -> Result<(), AllocError>
         requires link { IsLink link }
         requires can { CanSendCount self.old link }
-        ensures sent { OnOk result (HaveSentCount self.old self.new link count (fates_at fates.old Ack (slot_into link))) }
-        ensures fates { OnOk result (fates.new ≡ with_fates fates.old Ack (slot_into link) (fates_after_one (fates_at fates.old Ack (slot_into link)))) }
+        ensures sent { OnOk result
+            (HaveSentCount self.old self.new link count (fates_at fates.old Ack (slot_into link))) }
+        ensures fates { OnOk result (fates.new
+            ≡ with_fates fates.old Ack (slot_into link)
+            (fates_after_one (fates_at fates.old Ack (slot_into link)))) }
     {
         let slot = slot_at_receiver(link);
         let Some(into) = &mut self.ins[slot] else {
@@ -148,10 +157,12 @@ fn send_out(
     fates: &mut Fates,
     slot: usize,
 ) -> Result<(), AllocError>
-    requires slot { slot < slots }
+    requires slot { slot < SLOTS }
     requires room { most_pushed events.now out.old.events.held ≤ out.old.events.free }
-    ensures sent { OnOk result (out.new ≡ record out.old { events = with_sent out.old.events events.now (fates_at fates.old Carry slot) }) }
-    ensures fates { OnOk result (fates.new ≡ with_fates fates.old Carry slot (fates_left events.now (fates_at fates.old Carry slot))) }
+    ensures sent { OnOk result (out.new
+        ≡ record out.old { events = with_sent out.old.events events.now (fates_at fates.old Carry slot) }) }
+    ensures fates { OnOk result (fates.new
+        ≡ with_fates fates.old Carry slot (fates_left events.now (fates_at fates.old Carry slot))) }
 {
     out.events.send(events, &mut fates.carry[slot])
 }
@@ -163,10 +174,12 @@ fn send_back(
     fates: &mut Fates,
     slot: usize,
 ) -> Result<(), AllocError>
-    requires slot { slot < slots }
+    requires slot { slot < SLOTS }
     requires room { most_pushed (count ∷ []) into.old.counts.held ≤ into.old.counts.free }
-    ensures sent { OnOk result (into.new ≡ record into.old { counts = with_sent into.old.counts (count ∷ []) (fates_at fates.old Ack slot) }) }
-    ensures fates { OnOk result (fates.new ≡ with_fates fates.old Ack slot (fates_after_one (fates_at fates.old Ack slot))) }
+    ensures sent { OnOk result (into.new
+        ≡ record into.old { counts = with_sent into.old.counts (count ∷ []) (fates_at fates.old Ack slot) }) }
+    ensures fates { OnOk result (fates.new
+        ≡ with_fates fates.old Ack slot (fates_after_one (fates_at fates.old Ack slot))) }
 {
     into.counts.send(&[count], &mut fates.ack[slot])
 }

@@ -1,9 +1,9 @@
 //! Fates: what becomes of the packets that are sent.
 
 ghost use Rattle.std.specs.Prelude.{◌≡◌, [], length, slice_index_or, slice_set};
+ghost use Rattle.market_links.specs.declared.slots.TheConstants.{SLOTS};
 ghost use Rattle.market_rings.specs.Fates.{fates_at, with_fates};
 ghost use Rattle.market_rings.specs.Pushes.{next_fate, fates_after_one};
-ghost use Rattle.market_rings.specs.Slots.{slots};
 
 use std::marker::Model;
 
@@ -82,22 +82,22 @@ pub struct Fates {
 
 impl Model for Fates {
     ghost use Rattle.std.specs.Prelude.{◌≡◌, length};
-    ghost use Rattle.market_rings.specs.Slots.{slots};
+    ghost use Rattle.market_links.specs.declared.slots.TheConstants.{SLOTS};
     ghost use Rattle.market_rings.specs.Fates.{FatesLeft};
 
     ghost Value = { FatesLeft };
 
     ghost view = { λ fates. record { carry = fates.carry.items; ack = fates.ack.items } };
 
-    ghost invariant = { λ fates. (length fates.carry.items ≡ slots) × (length fates.ack.items ≡ slots) };
+    ghost invariant = { λ fates. (length fates.carry.items ≡ SLOTS) × (length fates.ack.items ≡ SLOTS) };
 }
 
 impl Fates {
     /// The fates of events, by the slot of the link out of the node, and of counts, by the slot of the link
     /// into it. It requires a list for each slot.
     pub fn new(carry: Vec<FateList>, ack: Vec<FateList>) -> Fates
-        requires carry { length carry.items ≡ slots }
-        requires ack { length ack.items ≡ slots }
+        requires carry { length carry.items ≡ SLOTS }
+        requires ack { length ack.items ≡ SLOTS }
         ensures { result ≡ record { carry = carry.items; ack = ack.items } }
     {
         Fates { carry, ack }
@@ -106,7 +106,8 @@ impl Fates {
     /// Uses the next fate of a slot: Pass, where none is left.
     pub fn next(&mut self, way: Way, slot: usize) -> Fate
         ensures next { result ≡ next_fate (fates_at self.old way slot) }
-        ensures left { self.new ≡ with_fates self.old way slot (fates_after_one (fates_at self.old way slot)) }
+        ensures left { self.new
+            ≡ with_fates self.old way slot (fates_after_one (fates_at self.old way slot)) }
     {
         match way {
             Way::Carry => next_at(&mut self.carry, slot),
@@ -118,7 +119,8 @@ impl Fates {
 // Uses the next fate of the list with this index: Pass, where none is left or there is no such list.
 fn next_at(lists: &mut [FateList], index: usize) -> Fate
     ensures next { result ≡ next_fate (slice_index_or lists.old index []) }
-    ensures left { lists.new ≡ slice_set lists.old index (fates_after_one (slice_index_or lists.old index [])) }
+    ensures left { lists.new
+        ≡ slice_set lists.old index (fates_after_one (slice_index_or lists.old index [])) }
 {
     if index >= lists.len() {
         return Fate::Pass;

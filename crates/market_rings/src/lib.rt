@@ -6,11 +6,9 @@ mod ends;
 mod fates;
 mod inlets;
 mod link_ends;
-mod links;
 mod outlets;
 mod packets;
 mod rings;
-mod slots;
 #[cfg(test)]
 mod tests;
 mod wiring;

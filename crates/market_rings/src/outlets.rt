@@ -108,7 +108,8 @@ impl<T: Packet> Outlet<T> {
     fn push_held(&mut self, count: usize)
         requires free { count ≤ self.old.free }
         requires held { count ≤ length self.old.held }
-        ensures { self.new ≡ record (with_pushed self.old (take count self.old.held)) { held = drop count self.old.held } }
+        ensures { self.new
+            ≡ record (with_pushed self.old (take count self.old.held)) { held = drop count self.old.held } }
     {
         for _ in 0..count {
             if let Some(packet) = self.held.pop_front() {

@@ -8,7 +8,7 @@ use Rattle.market_events.specs.declared.replies.EntryRow.{EntryRow}
 use Rattle.market_words.specs.Results.{◌>>=◌}
 use Rattle.market_texts.specs.Reading.{Words, placed, row_of, rows_from, rows}
 use Rattle.market_events.specs.Texts.{row_text}
-use Rattle.market_events.specs.WellFormed.{IsRow, AreRows, most_rows}
+use Rattle.market_events.specs.WellFormed.{IsRow, AreRows, most_rows_shown}
 use Rattle.market_words.proofs.WordCuts.{Lacks}
 use Rattle.market_texts.proofs.WordLaws.{row_word}
 use Rattle.market_texts.proofs.ReaderLaws.{Reads, Spells, ok_same}
@@ -37,7 +37,7 @@ pub rows_reads : (rs : List EntryRow) → AreRows rs → Reads rows (map row_tex
 rows_reads rs h = record {
   bare = bare_rows rs h.each;
   end_of = λ place. rows_end place rs;
-  reads = λ place. rows_from_texts most_rows place rs h.most h.each;
+  reads = λ place. rows_from_texts most_rows_shown place rs h.most h.each;
 }
 
 -- what is read from some words on: rows of which these are the texts, to the end
@@ -79,6 +79,6 @@ pub rows_spells : Spells rows (λ rs words. AreRows rs × (words ≡ map row_tex
 unfolding RowsSpelled
 rows_spells = record {
   spelled = λ place left rs rest e.
-      let known = rows_from_spelled most_rows place left (rs, rest) e in
+      let known = rows_from_spelled most_rows_shown place left (rs, rest) e in
       (left, sym (ap (λ l. left ++ l) known.3 ∙ append-nil left), (record { most = known.1; each = known.2 }, known.0));
 }

@@ -4,7 +4,7 @@ use Rattle.std.proofs.lemmas.Bool.Decides.{nat_tests}
 use Rattle.market_events.specs.declared.bodies.Item.{Item}
 use Rattle.market_events.specs.declared.bodies.PricedLine.{PricedLine}
 use Rattle.market_words.specs.Words.{pieces}
-use Rattle.market_texts.specs.Reading.{item_of, line_of}
+use Rattle.market_texts.specs.Reading.{item_read, line_read}
 use Rattle.market_texts.specs.Cutting.{lines_break, last_below}
 use Rattle.market_events.specs.WellFormed.{most_lines, most_items, key_below, keys_rise}
 use Rattle.market_texts.proofs.Gathering.{Breaks, StandsFor, begins}
@@ -18,8 +18,8 @@ items_closed : Breaks items_break
 items_closed xs ys h = grind (arith, nat_tests, h, length-append xs ys)
 
 -- no item is read yet
-pub items_begin : (text : List ℕ) → StandsFor items_break item_of (pieces 59 text) [] None (pieces 59 text)
-items_begin text = begins items_break items_closed refl item_of (pieces 59 text)
+pub items_begin : (text : List ℕ) → StandsFor items_break item_read (pieces 59 text) [] None (pieces 59 text)
+items_begin text = begins items_break items_closed refl item_read (pieces 59 text)
 
 -- there is room for one more, or there is not
 pub items_room : (items : List Item) (item : Item) → length items < most_items → items_break (items ++ item ∷ []) ≡ false
@@ -47,8 +47,8 @@ lines_closed xs ys h = by_rise (keys_rise xs) refl h
     by_rise false rise h = rw (falls_on xs ys rise) (grind (arith, nat_tests))
 
 -- no line is read yet
-pub lines_begin : (text : List ℕ) → StandsFor lines_break line_of (pieces 59 text) [] None (pieces 59 text)
-lines_begin text = begins lines_break lines_closed refl line_of (pieces 59 text)
+pub lines_begin : (text : List ℕ) → StandsFor lines_break line_read (pieces 59 text) [] None (pieces 59 text)
+lines_begin text = begins lines_break lines_closed refl line_read (pieces 59 text)
 
 -- the last line is the one at the last place
 last_below_at : (xs : List PricedLine) (x d : PricedLine) (i : ℕ) → length xs ≡ suc i → last_below xs x ≡ key_below (get_or xs i d).key x.key

@@ -13,7 +13,7 @@ use Rattle.market_words.specs.declared.faults.WordFault.TheVariants.{Field}
 use Rattle.market_events.specs.declared.replies.EntryRow.{EntryRow}
 use Rattle.market_events.specs.declared.replies.OrderStatus.{OrderStatus}
 use Rattle.market_words.specs.Words.{pieces, both, onto, all_of, number_up_to, number_id, key_in, id_of_pieces, id_of, key_of_pieces, key_of}
-use Rattle.market_texts.specs.Reading.{cents, quantity, line_of_pieces, line_of, ruled_lines, lines_of, item_of_pieces, item_of, ruled_items, items_of, status_of, in_progress, row_of_pieces, row_of}
+use Rattle.market_texts.specs.Reading.{cents, quantity, line_of_pieces, ruled_lines, item_of_pieces, ruled_items, status_of, in_progress, row_of_pieces, row_of, item_read, items_read, line_read, lines_read}
 use Rattle.market_words.specs.Results.{◌>>=◌}
 use Rattle.market_events.specs.Texts.{id_text, key_text, line_text, lines_text, item_text, items_text, status_text, row_text}
 use Rattle.market_events.specs.WellFormed.{total_max, most_lines, most_items, IsKey, IsRequestId, IsLine, AreLines, IsItem, AreItems, IsRow, keys_rise}
@@ -78,7 +78,7 @@ line_spelled (seller ∷ product ∷ q ∷ price ∷ freight ∷ voucher ∷ [])
 line_spelled (a ∷ b ∷ c ∷ d ∷ f ∷ g ∷ h ∷ more) line e = absurd (cc)
 
 -- SELLER:PRODUCT:QUANTITY:PRICE:FREIGHT:VOUCHER
-pub line_word : ReadsWord line_of line_text IsLine
+pub line_word : ReadsWord line_read line_text IsLine
 line_word = joined_word 58 refl (record {
   reads = λ line ok.
       ap (onto line_from) (both_reads (key_in_reads line.key ok.key) (both_reads (quantity_word.reads line.quantity ok.quantity)
@@ -121,11 +121,11 @@ ruled_lines_apart from lines e = by_most (nat_lt most_lines (length from)) (keys
         subst (λ (ls : List PricedLine). (from ≡ ls) × (length ls ≤ most_lines) × (keys_rise ls ≡ true)) same (refl, grind (arith, nat_tests, most), rise)
 
 -- lines, joined by `;`
-pub lines_word : ReadsWord lines_of lines_text AreLines
+pub lines_word : ReadsWord lines_read lines_text AreLines
 lines_word = joined_word 59 refl (record {
   reads = λ lines ok. ap (λ r. r >>= ruled_lines) (all_read line_word lines ok.each) ∙ ruled_lines_reads lines ok;
   spelled = λ ts lines some e.
-      let apart = then_apart (all_of (map line_of ts)) ruled_lines lines e in
+      let apart = then_apart (all_of (map line_read ts)) ruled_lines lines e in
       let ruled = ruled_lines_apart apart.0 lines apart.2 in
       let spelled = all_spelled line_word ts lines (apart.1 ∙ ap Ok ruled.0) in
       (record { some = some_texts line_text ts lines spelled.1 some; most = ruled.1; each = spelled.0; rise = ruled.2 }, spelled.1);
@@ -176,7 +176,7 @@ item_spelled (checkout ∷ customer ∷ seller ∷ product ∷ []) item e =
 item_spelled (a ∷ b ∷ c ∷ d ∷ f ∷ more) item e = absurd (cc)
 
 -- ID:CUSTOMER:SELLER:PRODUCT
-pub item_word : ReadsWord item_of item_text IsItem
+pub item_word : ReadsWord item_read item_text IsItem
 item_word = joined_word 58 refl (record {
   reads = λ item ok.
       ap (onto item_from) (both_reads (id_word.reads item.checkout ok.checkout) (both_reads (number_id_word.reads item.customer ok.customer) (key_in_reads item.key ok.key)));
@@ -201,11 +201,11 @@ ruled_items_apart from items e = by_most (nat_lt most_items (length from)) refl 
         subst (λ (is : List Item). (from ≡ is) × (length is ≤ most_items)) same (refl, grind (arith, nat_tests, most))
 
 -- items, joined by `;`
-pub items_word : ReadsWord items_of items_text AreItems
+pub items_word : ReadsWord items_read items_text AreItems
 items_word = joined_word 59 refl (record {
   reads = λ items ok. ap (λ r. r >>= ruled_items) (all_read item_word items ok.each) ∙ ruled_items_reads items ok;
   spelled = λ ts items some e.
-      let apart = then_apart (all_of (map item_of ts)) ruled_items items e in
+      let apart = then_apart (all_of (map item_read ts)) ruled_items items e in
       let ruled = ruled_items_apart apart.0 items apart.2 in
       let spelled = all_spelled item_word ts items (apart.1 ∙ ap Ok ruled.0) in
       (record { some = some_texts item_text ts items spelled.1 some; most = ruled.1; each = spelled.0 }, spelled.1);

@@ -1,5 +1,6 @@
 -- Texts that are read piece by piece, and what a reader that moves on gives.
-use Rattle.std.specs.Prelude.{◌≡◌, MatchResult, ℕ, ◌+◌, Bool, true, not, ◌||◌, nat_lt, length, List, [], ◌∷◌, Option, Some, None, Result, Ok, Err}
+use Rattle.std.specs.Prelude.{◌≡◌, MatchResult, ℕ, ◌+◌, Bool, true, not, ◌||◌, nat_lt, length, List, [], ◌∷◌}
+use Rattle.std.specs.Prelude.{Option, Some, None, Result, Ok, Err}
 use Rattle.std.specs.Borrow.{Bor}
 use Rattle.market_events.specs.declared.bodies.PricedLine.{PricedLine}
 use Rattle.market_texts.specs.declared.faults.BodyError.{BodyError}
@@ -14,7 +15,8 @@ use Rattle.market_events.specs.WellFormed.{most_lines, key_below, keys_rise}
 
 -- a word was taken: it stood first, at this place
 abbrev pub WordTaken : Words → Words → ℕ → List ℕ → Type 0
-WordTaken old new place text = (old.left ≡ text ∷ new.left) × (place ≡ old.place) × (new.place ≡ old.place + 1)
+WordTaken old new place text =
+    (old.left ≡ text ∷ new.left) × (place ≡ old.place) × (new.place ≡ old.place + 1)
 
 -- what a reader says that gave this and left these words
 abbrev pub outcome : {A : Type 0} → Result A BodyError → Words → Result (A × Words) BodyError

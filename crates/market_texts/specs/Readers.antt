@@ -25,7 +25,8 @@ use Rattle.market_events.specs.declared.replies.UndoneRule.TheVariants as undone
 use Rattle.market_events.specs.declared.requests.Ask.{Ask}
 use Rattle.market_events.specs.declared.requests.Ask.TheVariants as ask
 use Rattle.market_events.specs.declared.requests.Request.{Request}
-use Rattle.market_texts.specs.Reading.{Reader, ◌then◌, give, word, any_word, cents, quantity, key_words, lines_of, items_of, status_of, this_total, rows, whole}
+use Rattle.market_texts.specs.Reading.{Reader, ◌then◌, give, word, any_word, cents, quantity, key_words}
+use Rattle.market_texts.specs.Reading.{status_of, this_total, rows, whole, items_read, lines_read}
 use Rattle.market_words.specs.Words.{same_text, number_up_to, above_zero, number_id, id_of, key_of}
 use Rattle.market_events.specs.WellFormed.{pieces_max, limit_max, total_max, amount_max, total_of}
 
@@ -45,17 +46,25 @@ no_kind words = Err bad.Kind
 -- the arguments of a kind of request
 abbrev pub ask_named : List ℕ → Reader Ask
 ask_named kind =
-    if same_text kind (codes "create") then (key_words then λ k. word cents then λ p. word cents then λ f. give (ask.Create k p f))
-    else if same_text kind (codes "price") then (key_words then λ k. word cents then λ p. give (ask.Price k p))
+    if same_text kind (codes "create") then
+    (key_words then λ k. word cents then λ p. word cents then λ f. give (ask.Create k p f))
+    else if same_text kind (codes "price") then
+    (key_words then λ k. word cents then λ p. give (ask.Price k p))
     else if same_text kind (codes "delete") then (key_words then λ k. give (ask.Delete k))
     else if same_text kind (codes "view") then (key_words then λ k. give (ask.View k))
-    else if same_text kind (codes "line") then (number then λ c. key_words then λ k. word quantity then λ q. word cents then λ v. give (ask.Line c k q v))
+    else if same_text kind (codes "line") then
+    (number then λ c. key_words then λ k. word quantity then λ q. word cents then λ v. give
+    (ask.Line c k q v))
     else if same_text kind (codes "remove") then (number then λ c. key_words then λ k. give (ask.Remove c k))
     else if same_text kind (codes "checkout") then (number then λ c. give (ask.Checkout c))
-    else if same_text kind (codes "stock") then (key_words then λ k. word (λ text. above_zero (number_up_to pieces_max text)) then λ n. give (ask.Stock k n))
+    else if same_text kind (codes "stock") then
+    (key_words then λ k. word (λ text. above_zero (number_up_to pieces_max text)) then λ n. give
+    (ask.Stock k n))
     else if same_text kind (codes "level") then (key_words then λ k. give (ask.Level k))
-    else if same_text kind (codes "order") then (number then λ c. number then λ n. give (ask.Order (record { caller = c; number = n })))
-    else if same_text kind (codes "card") then (number then λ c. word (number_up_to limit_max) then λ l. give (ask.Card c l))
+    else if same_text kind (codes "order") then
+    (number then λ c. number then λ n. give (ask.Order (record { caller = c; number = n })))
+    else if same_text kind (codes "card") then
+    (number then λ c. word (number_up_to limit_max) then λ l. give (ask.Card c l))
     else if same_text kind (codes "deliver") then give ask.Deliver
     else if same_text kind (codes "customer") then (number then λ c. give (ask.Customer c))
     else if same_text kind (codes "dashboard") then (number then λ s. give (ask.Dashboard s))
@@ -63,7 +72,9 @@ ask_named kind =
 
 -- ID KIND ARGUMENT ..
 abbrev pub request_reader : Reader Request
-request_reader = word id_of then λ id. word any_word then λ kind. ask_named kind then λ a. give (record { id = id; ask = a })
+request_reader =
+    word id_of then λ id. word any_word then λ kind. ask_named kind then λ a. give
+    (record { id = id; ask = a })
 
 abbrev pub rule_of : List ℕ → Result Rule WordFault
 rule_of text =
@@ -107,19 +118,26 @@ reply_named kind =
     if same_text kind (codes "created") then (number then λ v. give (reply.Created v))
     else if same_text kind (codes "priced") then (number then λ v. give (reply.Priced v))
     else if same_text kind (codes "deleted") then (number then λ v. give (reply.Deleted v))
-    else if same_text kind (codes "view") then (number then λ v. word cents then λ p. word cents then λ f. give (reply.View v p f))
+    else if same_text kind (codes "view") then
+    (number then λ v. word cents then λ p. word cents then λ f. give (reply.View v p f))
     else if same_text kind (codes "line") then (word quantity then λ q. give (reply.Line q))
     else if same_text kind (codes "removed") then give reply.Removed
     else if same_text kind (codes "whole") then (total then λ t. give (reply.Whole t))
-    else if same_text kind (codes "undone") then (word undone_word_of then λ w. undone_by w then λ r. give (reply.Undone r))
+    else if same_text kind (codes "undone") then
+    (word undone_word_of then λ w. undone_by w then λ r. give (reply.Undone r))
     else if same_text kind (codes "stocked") then (pieces_number then λ n. give (reply.Stocked n))
-    else if same_text kind (codes "level") then (pieces_number then λ n. pieces_number then λ r. give (reply.Level n r))
-    else if same_text kind (codes "order") then (word status_of then λ s. total then λ t. give (reply.OrderState s t))
+    else if same_text kind (codes "level") then
+    (pieces_number then λ n. pieces_number then λ r. give (reply.Level n r))
+    else if same_text kind (codes "order") then
+    (word status_of then λ s. total then λ t. give (reply.OrderState s t))
     else if same_text kind (codes "card") then (word (number_up_to limit_max) then λ l. give (reply.Card l))
-    else if same_text kind (codes "delivered") then (number then λ s. number then λ p. give (reply.Delivered s p))
-    else if same_text kind (codes "customer") then (number then λ c. number then λ f. number then λ d. give (reply.Customer c f d))
+    else if same_text kind (codes "delivered") then
+    (number then λ s. number then λ p. give (reply.Delivered s p))
+    else if same_text kind (codes "customer") then
+    (number then λ c. number then λ f. number then λ d. give (reply.Customer c f d))
     else if same_text kind (codes "dashboard") then
-    (number then λ p. number then λ n. word (number_up_to amount_max) then λ a. rows then λ rs. give (reply.Dashboard p n a rs))
+    (number then λ p. number then λ n. word (number_up_to amount_max) then λ a. rows then λ rs. give
+    (reply.Dashboard p n a rs))
     else if same_text kind (codes "refused") then (word rule_of then λ r. give (reply.Refused r))
     else no_kind
 
@@ -188,22 +206,29 @@ inside p words = faults_by kind_fault (p words)
 abbrev pub body_named : List ℕ → Reader Body
 body_named kind =
     if same_text kind (codes "changed") then
-    (word key_of then λ k. number then λ v. word change_word_of then λ w. change_by w then λ c. give (body.Changed k v c))
-    else if same_text kind (codes "reserve") then (word id_of then λ c. number then λ n. word lines_of then λ ls. give (body.Reserve c n ls))
+    (word key_of then λ k. number then λ v. word change_word_of then λ w. change_by w then λ c. give
+    (body.Changed k v c))
+    else if same_text kind (codes "reserve") then
+    (word id_of then λ c. number then λ n. word lines_read then λ ls. give (body.Reserve c n ls))
     else if same_text kind (codes "reserve_failed") then
     (word id_of then λ c. word key_of then λ k. word stock_rule_of then λ r. give (body.ReserveFailed c k r))
     else if same_text kind (codes "stock_confirmed") then
-    (word id_of then λ c. number then λ n. word lines_of then λ ls. give (body.StockConfirmed c n ls))
+    (word id_of then λ c. number then λ n. word lines_read then λ ls. give (body.StockConfirmed c n ls))
     else if same_text kind (codes "invoice") then
-    (word id_of then λ c. number then λ n. word lines_of then λ ls. word (this_total (total_of ls)) then λ t. give (body.Invoice c n ls t))
+    (word id_of then λ c. number then λ n. word lines_read then λ ls. word (this_total (total_of ls)) then λ
+    t. give (body.Invoice c n ls t))
     else if same_text kind (codes "confirmed") then
-    (word id_of then λ c. number then λ n. word lines_of then λ ls. word (this_total (total_of ls)) then λ t. give (body.Confirmed c n ls t))
-    else if same_text kind (codes "ended") then (word id_of then λ c. word ending_word_of then λ w. ending_by w then λ e. give (body.Ended c e))
-    else if same_text kind (codes "failed") then (word id_of then λ c. number then λ n. word pay_rule_of then λ r. give (body.Failed c n r))
+    (word id_of then λ c. number then λ n. word lines_read then λ ls. word (this_total (total_of ls)) then λ
+    t. give (body.Confirmed c n ls t))
+    else if same_text kind (codes "ended") then
+    (word id_of then λ c. word ending_word_of then λ w. ending_by w then λ e. give (body.Ended c e))
+    else if same_text kind (codes "failed") then
+    (word id_of then λ c. number then λ n. word pay_rule_of then λ r. give (body.Failed c n r))
     else if same_text kind (codes "shipped") then (word id_of then λ c. give (body.Shipped c))
-    else if same_text kind (codes "delivered") then (word items_of then λ is. give (body.Delivered is))
+    else if same_text kind (codes "delivered") then (word items_read then λ is. give (body.Delivered is))
     else if same_text kind (codes "asked") then (inside request_reader then λ r. give (body.Asked r))
-    else if same_text kind (codes "told") then (word id_of then λ id. inside reply_reader then λ r. give (body.Told id r))
+    else if same_text kind (codes "told") then
+    (word id_of then λ id. inside reply_reader then λ r. give (body.Told id r))
     else no_kind
 
 abbrev pub body_reader : Reader Body

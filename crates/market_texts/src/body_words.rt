@@ -1,9 +1,11 @@
 //! Reading bodies word by word.
 
 ghost use Rattle.std.specs.Prelude.{◌≡◌, ◌≤◌, ◌+◌};
-ghost use Rattle.market_texts.specs.Reading.{word, give, ◌then◌, lines_of, items_of, this_total};
+ghost use Rattle.market_texts.specs.Reading.{word, give, ◌then◌, this_total, items_read, lines_read};
 ghost use Rattle.market_words.specs.Words.{id_of};
-ghost use Rattle.market_texts.specs.Readers.{body_reader, body_named, change_word_of, change_by, ending_word_of, ending_by, request_reader, reply_reader, inside, kind_fault, number};
+ghost use Rattle.market_texts.specs.Readers.{body_reader, body_named, change_word_of, change_by};
+ghost use Rattle.market_texts.specs.Readers.{ending_word_of, ending_by, request_reader, reply_reader, inside};
+ghost use Rattle.market_texts.specs.Readers.{kind_fault, number};
 ghost use Rattle.market_events.specs.WellFormed.{total_of};
 ghost use Rattle.market_texts.specs.Cutting.{outcome, Tells};
 
@@ -62,7 +64,9 @@ fn body_of_kind(alloc: Global, kind: &[u8], words: &mut Words) -> Result<Body, B
 // What a checkout costs, with its total.
 fn invoice(alloc: Global, words: &mut Words) -> Result<Body, BodyFault>
     requires { words.old.place + 4 ≤ u32.MAX }
-    ensures { Tells result words.new ((word id_of then λ c. number then λ n. word lines_of then λ ls. word (this_total (total_of ls)) then λ t. give (Body.Invoice c n ls t)) words.old) }
+    ensures { Tells result words.new
+        ((word id_of then λ c. number then λ n. word lines_read then λ ls. word (this_total (total_of ls))
+        then λ t. give (Body.Invoice c n ls t)) words.old) }
 {
     let (checkout, customer) = (words.id()?, words.number()?);
     let lines = line_list(alloc, words)?;
@@ -73,7 +77,9 @@ fn invoice(alloc: Global, words: &mut Words) -> Result<Body, BodyFault>
 // What a paid checkout costs, with its total.
 fn confirmed(alloc: Global, words: &mut Words) -> Result<Body, BodyFault>
     requires { words.old.place + 4 ≤ u32.MAX }
-    ensures { Tells result words.new ((word id_of then λ c. number then λ n. word lines_of then λ ls. word (this_total (total_of ls)) then λ t. give (Body.Confirmed c n ls t)) words.old) }
+    ensures { Tells result words.new
+        ((word id_of then λ c. number then λ n. word lines_read then λ ls. word (this_total (total_of ls))
+        then λ t. give (Body.Confirmed c n ls t)) words.old) }
 {
     let (checkout, customer) = (words.id()?, words.number()?);
     let lines = line_list(alloc, words)?;
@@ -116,7 +122,7 @@ fn ending(words: &mut Words) -> Result<Ending, BodyError>
 // Lines in one word.
 fn line_list(alloc: Global, words: &mut Words) -> Result<List<PricedLine>, BodyFault>
     requires { words.old.place + 1 ≤ u32.MAX }
-    ensures said { Tells result words.new (word lines_of words.old) }
+    ensures said { Tells result words.new (word lines_read words.old) }
     ensures near { words.new.place ≤ words.old.place + 1 }
 {
     let (place, text) = words.take()?;
@@ -129,7 +135,7 @@ fn line_list(alloc: Global, words: &mut Words) -> Result<List<PricedLine>, BodyF
 // Items in one word.
 fn item_list(alloc: Global, words: &mut Words) -> Result<List<Item>, BodyFault>
     requires { words.old.place + 1 ≤ u32.MAX }
-    ensures { Tells result words.new (word items_of words.old) }
+    ensures { Tells result words.new (word items_read words.old) }
 {
     let (place, text) = words.take()?;
     match items(alloc, text)? {

@@ -1,8 +1,9 @@
-//! What a word says: a wide number, a total, an amount, a line, an item or a row. All spelling in a word is judged before ranges.
+//! What a word says: a wide number, a total, an amount, a line, an item or a row. All spelling in a word is
+//! judged before ranges.
 
 ghost use Rattle.std.specs.Prelude.{◌≡◌};
 ghost use Rattle.market_words.specs.Words.{number_up_to, above_zero};
-ghost use Rattle.market_texts.specs.Reading.{this_total, line_of, quantity, cents, item_of, row_of};
+ghost use Rattle.market_texts.specs.Reading.{this_total, quantity, cents, row_of, item_read, line_read};
 ghost use Rattle.market_events.specs.WellFormed.{amount_max};
 
 use crate::names::open_status;
@@ -59,7 +60,7 @@ pub(crate) fn quantity(text: &[u8]) -> Result<Quantity, WordFault>
 
 // SELLER:PRODUCT:QUANTITY:PRICE:FREIGHT:VOUCHER
 pub(crate) fn line(text: &[u8]) -> Result<PricedLine, WordFault>
-    ensures { result ≡ line_of text.now }
+    ensures { result ≡ line_read text.now }
 {
     let mut pieces = Pieces::new(text, b':');
     let seller = pieces.take()?;
@@ -85,7 +86,7 @@ pub(crate) fn line(text: &[u8]) -> Result<PricedLine, WordFault>
 
 // ID:CUSTOMER:SELLER:PRODUCT
 pub(crate) fn item(text: &[u8]) -> Result<Item, WordFault>
-    ensures { result ≡ item_of text.now }
+    ensures { result ≡ item_read text.now }
 {
     let mut pieces = Pieces::new(text, b':');
     let checkout = pieces.take()?;

@@ -1,5 +1,5 @@
-//! The texts of requests, replies and bodies, written word by word and read back, and the records of a workload. It knows the
-//! values alone, and no definition that speaks of services or of steps.
+//! The texts of requests, replies and bodies, written word by word and read back, and the records of a
+//! workload. It knows the values alone, and no definition that speaks of services or of steps.
 #![tactic(auto)]
 
 mod body_words;

@@ -1,7 +1,7 @@
 //! The lists in a word, joined by `;`.
 
 ghost use Rattle.std.specs.Prelude.{◌≡◌, ◌∷◌, [], ◌++◌, not, false, IfOk};
-ghost use Rattle.market_texts.specs.Reading.{items_of, lines_of};
+ghost use Rattle.market_texts.specs.Reading.{items_read, lines_read};
 ghost use Rattle.market_events.specs.WellFormed.{key_below};
 ghost use Rattle.market_texts.specs.Cutting.{lines_break, last_below};
 
@@ -17,13 +17,13 @@ const MOST_LINES: usize = 32;
 // The greatest number of items.
 const MOST_ITEMS: usize = 320;
 
-// Reads lines. Of the faults of a list the first kind is answered: spelling, then ranges, then the number of lines and
-// their order.
+// Reads lines. Of the faults of a list the first kind is answered: spelling, then ranges, then the number of
+// lines and their order.
 pub(crate) fn lines(
     alloc: Global,
     text: &[u8],
 ) -> Result<Result<List<PricedLine>, WordFault>, AllocError>
-    ensures { IfOk result (λ said. said ≡ lines_of text.now) }
+    ensures { IfOk result (λ said. said ≡ lines_read text.now) }
 {
     let mut pieces = Pieces::new(text, b';');
     let mut lines = Vec::new(alloc);
@@ -76,9 +76,10 @@ fn is_below(a: ProductKey, b: ProductKey) -> bool
     a < b
 }
 
-// Reads items. Of the faults of a list the first kind is answered: spelling, then ranges, then the number of items.
+// Reads items. Of the faults of a list the first kind is answered: spelling, then ranges, then the number of
+// items.
 pub(crate) fn items(alloc: Global, text: &[u8]) -> Result<Result<List<Item>, WordFault>, AllocError>
-    ensures { IfOk result (λ said. said ≡ items_of text.now) }
+    ensures { IfOk result (λ said. said ≡ items_read text.now) }
 {
     let mut pieces = Pieces::new(text, b';');
     let mut items = Vec::new(alloc);

@@ -4,7 +4,8 @@ ghost use Rattle.std.specs.Prelude.{◌≡◌, ◌⊎◌, Ok, Err, IfOk, MatchRe
 ghost use Rattle.market_events.specs.declared.bodies.Body.{Body};
 ghost use Rattle.market_events.specs.declared.replies.Reply.{Reply};
 ghost use Rattle.market_events.specs.declared.requests.Request.{Request};
-ghost use Rattle.market_texts.specs.Readers.{request_of_text, reply_of_text, body_of_text, TellsFault, with_fault};
+ghost use Rattle.market_texts.specs.Readers.{request_of_text, reply_of_text, body_of_text, TellsFault};
+ghost use Rattle.market_texts.specs.Readers.{with_fault};
 ghost use Rattle.market_events.specs.Texts.{text_of_request, text_of_reply, text_of_body};
 ghost use Rattle.market_events.specs.WellFormed.{IsRequest, IsReply, IsBody};
 
@@ -26,35 +27,40 @@ pub fn read_request(text: &[u8]) -> Result<Request, BodyFault>
     ensures spelled { IfOk result (λ request. text.now ≡ text_of_request request) }
 
     // The text of a well-formed request is read as that request.
-    ensures reads { (request : Request) → IsRequest request → text.now ≡ text_of_request request → result ≡ Ok request }
+    ensures reads { (request : Request) → IsRequest request → text.now ≡ text_of_request request
+        → result ≡ Ok request }
 {
     whole_request(text)
 }
 
 /// Reads the reply of a text. A text that is that of no well-formed reply is refused by its first fault.
 pub fn read_reply(alloc: Global, text: &[u8]) -> Result<Reply, BodyFault>
-    ensures said { MatchResult result (λ reply. reply_of_text text.now ≡ Ok reply) (TellsFault (reply_of_text text.now)) }
+    ensures said { MatchResult result (λ reply. reply_of_text text.now
+        ≡ Ok reply) (TellsFault (reply_of_text text.now)) }
 
     // A reply that is read is well formed, and the text is its text.
     ensures formed { IfOk result IsReply }
     ensures spelled { IfOk result (λ reply. text.now ≡ text_of_reply reply) }
 
     // The text of a well-formed reply is read as that reply, unless memory is wanting.
-    ensures reads { (reply : Reply) → IsReply reply → text.now ≡ text_of_reply reply → (result ≡ Ok reply) ⊎ (result ≡ Err BodyFault.OutOfMemory) }
+    ensures reads { (reply : Reply) → IsReply reply → text.now ≡ text_of_reply reply
+        → (result ≡ Ok reply) ⊎ (result ≡ Err BodyFault.OutOfMemory) }
 {
     whole_reply(alloc, text)
 }
 
 /// Reads the body of a text. A text that is that of no well-formed body is refused by its first fault.
 pub fn read_body(alloc: Global, text: &[u8]) -> Result<Body, BodyFault>
-    ensures said { MatchResult result (λ body. body_of_text text.now ≡ Ok body) (TellsFault (body_of_text text.now)) }
+    ensures said { MatchResult result (λ body. body_of_text text.now
+        ≡ Ok body) (TellsFault (body_of_text text.now)) }
 
     // A body that is read is well formed, and the text is its text.
     ensures formed { IfOk result IsBody }
     ensures spelled { IfOk result (λ body. text.now ≡ text_of_body body) }
 
     // The text of a well-formed body is read as that body, unless memory is wanting.
-    ensures reads { (body : Body) → IsBody body → text.now ≡ text_of_body body → (result ≡ Ok body) ⊎ (result ≡ Err BodyFault.OutOfMemory) }
+    ensures reads { (body : Body) → IsBody body → text.now ≡ text_of_body body
+        → (result ≡ Ok body) ⊎ (result ≡ Err BodyFault.OutOfMemory) }
 {
     whole_body(alloc, text)
 }
@@ -73,7 +79,8 @@ fn whole_request(text: &[u8]) -> Result<Request, BodyFault>
 // The reply of all words of a text.
 #[tactic(auto, using(crate::proofs::Endings::ended_more))]
 fn whole_reply(alloc: Global, text: &[u8]) -> Result<Reply, BodyFault>
-    ensures { MatchResult result (λ reply. reply_of_text text.now ≡ Ok reply) (TellsFault (reply_of_text text.now)) }
+    ensures { MatchResult result (λ reply. reply_of_text text.now
+        ≡ Ok reply) (TellsFault (reply_of_text text.now)) }
 {
     let mut words = Words::new(text);
     let reply = reply(alloc, &mut words)?;
@@ -84,7 +91,8 @@ fn whole_reply(alloc: Global, text: &[u8]) -> Result<Reply, BodyFault>
 // The body of all words of a text.
 #[tactic(auto, using(crate::proofs::Endings::ended_more))]
 fn whole_body(alloc: Global, text: &[u8]) -> Result<Body, BodyFault>
-    ensures { MatchResult result (λ body. body_of_text text.now ≡ Ok body) (TellsFault (body_of_text text.now)) }
+    ensures { MatchResult result (λ body. body_of_text text.now
+        ≡ Ok body) (TellsFault (body_of_text text.now)) }
 {
     let mut words = Words::new(text);
     let body = body(alloc, &mut words)?;

@@ -71,7 +71,8 @@ fn reply_of_kind(alloc: Global, kind: &[u8], words: &mut Words) -> Result<Reply,
 // Why a checkout was undone.
 fn undone(words: &mut Words) -> Result<Reply, BodyError>
     requires { words.old.place + 3 ≤ u32.MAX }
-    ensures { outcome result words.new ≡ (word undone_word_of then λ w. undone_by w then λ r. give (Reply.Undone r)) words.old }
+    ensures { outcome result words.new
+        ≡ (word undone_word_of then λ w. undone_by w then λ r. give (Reply.Undone r)) words.old }
 {
     let (place, text) = words.take()?;
     if text == b"cart_empty".as_slice() {
@@ -92,7 +93,9 @@ fn undone(words: &mut Words) -> Result<Reply, BodyError>
 // The entries in progress of a seller, with their number and amount.
 fn dashboard(alloc: Global, words: &mut Words) -> Result<Reply, BodyFault>
     requires { words.old.place + 54 ≤ u32.MAX }
-    ensures { Tells result words.new ((number then λ p. number then λ n. word (number_up_to amount_max) then λ a. rows then λ rs. give (Reply.Dashboard p n a rs)) words.old) }
+    ensures { Tells result words.new
+        ((number then λ p. number then λ n. word (number_up_to amount_max) then λ a. rows then λ rs. give
+        (Reply.Dashboard p n a rs)) words.old) }
 {
     let point = words.number()?;
     let entries = words.number()?;

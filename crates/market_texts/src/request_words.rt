@@ -64,7 +64,9 @@ fn ask(kind: &[u8], words: &mut Words) -> Result<Ask, BodyError>
 // A line in a customer's cart, with quantity and voucher.
 fn line(words: &mut Words) -> Result<Ask, BodyError>
     requires { words.old.place + 5 ≤ u32.MAX }
-    ensures { outcome result words.new ≡ (number then λ c. key_words then λ k. word quantity then λ q. word cents then λ v. give (Ask.Line c k q v)) words.old }
+    ensures { outcome result words.new
+        ≡ (number then λ c. key_words then λ k. word quantity then λ q. word cents then λ v. give
+        (Ask.Line c k q v)) words.old }
 {
     let customer = words.number()?;
     let key = words.seller_product()?;

@@ -51,7 +51,8 @@ impl<'a> Words<'a> {
     // The next word with its number, if one is left.
     pub(crate) fn next(&mut self) -> Option<(u32, &'a [u8])>
         requires { self.old.place + 1 ≤ u32.MAX }
-        ensures { MatchOption result ((self.old.left ≡ []) × (self.new ≡ self.old)) (λ r. WordTaken self.old self.new r.0 r.1.now) }
+        ensures { MatchOption result ((self.old.left ≡ [])
+            × (self.new ≡ self.old)) (λ r. WordTaken self.old self.new r.0 r.1.now) }
     {
         let word = self.left.next()?;
         let place = self.place;
@@ -62,7 +63,8 @@ impl<'a> Words<'a> {
     // The next word with its number.
     pub(crate) fn take(&mut self) -> Result<(u32, &'a [u8]), BodyError>
         requires { self.old.place + 1 ≤ u32.MAX }
-        ensures said { MatchResult result (λ r. WordTaken self.old self.new r.0 r.1.now) (λ e. (self.old.left ≡ []) × (e ≡ BodyError.Field self.old.place)) }
+        ensures said { MatchResult result (λ r. WordTaken self.old self.new r.0 r.1.now) (λ e. (self.old.left
+            ≡ []) × (e ≡ BodyError.Field self.old.place)) }
         ensures near { self.new.place ≤ self.old.place + 1 }
     {
         self.next().ok_or(BodyError::Field(self.place))
@@ -70,7 +72,8 @@ impl<'a> Words<'a> {
 
     // Whether the words end here: a word that is left is one too many.
     pub(crate) fn end(mut self) -> Result<(), BodyError>
-        ensures { MatchResult result (λ _. self.entry.left ≡ []) (λ e. (e ≡ BodyError.Extra) × (0 < length self.entry.left)) }
+        ensures { MatchResult result (λ _. self.entry.left ≡ []) (λ e. (e ≡ BodyError.Extra)
+            × (0 < length self.entry.left)) }
     {
         match self.left.next() {
             None => Ok(()),
@@ -119,7 +122,8 @@ impl<'a> Words<'a> {
     // Pieces that are stocked: at least one.
     pub(crate) fn some_pieces(&mut self) -> Result<u32, BodyError>
         requires { self.old.place + 1 ≤ u32.MAX }
-        ensures said { outcome result self.new ≡ word (λ text. above_zero (number_up_to pieces_max text)) self.old }
+        ensures said { outcome result self.new
+            ≡ word (λ text. above_zero (number_up_to pieces_max text)) self.old }
         ensures near { self.new.place ≤ self.old.place + 1 }
     {
         let (place, text) = self.take()?;

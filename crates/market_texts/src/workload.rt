@@ -2,7 +2,11 @@
 
 ghost use Rattle.std.specs.Prelude.{◌≡◌, ◌≢◌, ◌≤◌, true, map, length, IfOk, MatchResult};
 ghost use Rattle.market_events.specs.WellFormed.{IsAsk, IsRequest, ArePieces};
-ghost use Rattle.market_texts.specs.Workload.{request_of, ask_named, create_of, price_of, delete_of, view_of, line_of, remove_of, checkout_of, stock_of, level_of, order_of, card_of, deliver_of, customer_of, dashboard_of, key_of, id_number_of, cents_of, quantity_of, pieces_of, limit_of, number_up_to};
+ghost use Rattle.market_texts.specs.Workload.{request_of, create_ask, price_ask, delete_ask, view_ask};
+ghost use Rattle.market_texts.specs.Workload.{line_ask, remove_ask, stock_ask, level_ask, checkout_ask};
+ghost use Rattle.market_texts.specs.Workload.{order_ask, card_ask, deliver_ask, customer_ask, dashboard_ask};
+ghost use Rattle.market_texts.specs.Workload.{ask_by_kind, number_field, id_field, cents_field};
+ghost use Rattle.market_texts.specs.Workload.{quantity_field, pieces_field, limit_field, key_fields};
 
 use market_amounts::{Cents, NumberError, ProductKey, Quantity, RequestId, read_number};
 use market_events::{Ask, Request};
@@ -46,9 +50,9 @@ impl fmt::Display for WorkRule {
 
 impl Error for WorkRule {}
 
-/// Reads a record `caller,number,kind,argument,..`. Of the rules that it breaks the first is answered: fewer than three
-/// fields, the spelling and range of caller and number, the kind, the number of arguments, and then the spelling and
-/// range of each argument in turn.
+/// Reads a record `caller,number,kind,argument,..`. Of the rules that it breaks the first is answered: fewer
+/// than three fields, the spelling and range of caller and number, the kind, the number of arguments, and
+/// then the spelling and range of each argument in turn.
 pub fn read_fields(fields: &[Vec<u8>]) -> Result<Request, WorkRule>
     ensures exact { result ≡ request_of (map (λ field. field.items) fields.now) }
     ensures formed { IfOk result IsRequest }
@@ -66,7 +70,7 @@ pub fn read_fields(fields: &[Vec<u8>]) -> Result<Request, WorkRule>
 }
 
 fn ask_of_kind(kind: &[u8], arguments: &[Vec<u8>]) -> Result<Ask, WorkRule>
-    ensures exact { result ≡ ask_named kind.now (map (λ field. field.items) arguments.now) }
+    ensures exact { result ≡ ask_by_kind kind.now (map (λ field. field.items) arguments.now) }
     ensures formed { IfOk result IsAsk }
 {
     if kind == b"create".as_slice() {
@@ -104,7 +108,7 @@ fn ask_of_kind(kind: &[u8], arguments: &[Vec<u8>]) -> Result<Ask, WorkRule>
 
 #[tactic(auto, using(crate::proofs::FieldCounts::counts))]
 fn create(arguments: &[Vec<u8>]) -> Result<Ask, WorkRule>
-    ensures exact { result ≡ create_of (map (λ field. field.items) arguments.now) }
+    ensures exact { result ≡ create_ask (map (λ field. field.items) arguments.now) }
     ensures formed { IfOk result IsAsk }
 {
     let [seller, product, price, freight] = exactly::<4>(arguments)?;
@@ -116,7 +120,7 @@ fn create(arguments: &[Vec<u8>]) -> Result<Ask, WorkRule>
 
 #[tactic(auto, using(crate::proofs::FieldCounts::counts))]
 fn price(arguments: &[Vec<u8>]) -> Result<Ask, WorkRule>
-    ensures exact { result ≡ price_of (map (λ field. field.items) arguments.now) }
+    ensures exact { result ≡ price_ask (map (λ field. field.items) arguments.now) }
     ensures formed { IfOk result IsAsk }
 {
     let [seller, product, price] = exactly::<3>(arguments)?;
@@ -127,7 +131,7 @@ fn price(arguments: &[Vec<u8>]) -> Result<Ask, WorkRule>
 
 #[tactic(auto, using(crate::proofs::FieldCounts::counts))]
 fn delete(arguments: &[Vec<u8>]) -> Result<Ask, WorkRule>
-    ensures exact { result ≡ delete_of (map (λ field. field.items) arguments.now) }
+    ensures exact { result ≡ delete_ask (map (λ field. field.items) arguments.now) }
     ensures formed { IfOk result IsAsk }
 {
     let [seller, product] = exactly::<2>(arguments)?;
@@ -137,7 +141,7 @@ fn delete(arguments: &[Vec<u8>]) -> Result<Ask, WorkRule>
 
 #[tactic(auto, using(crate::proofs::FieldCounts::counts))]
 fn view(arguments: &[Vec<u8>]) -> Result<Ask, WorkRule>
-    ensures exact { result ≡ view_of (map (λ field. field.items) arguments.now) }
+    ensures exact { result ≡ view_ask (map (λ field. field.items) arguments.now) }
     ensures formed { IfOk result IsAsk }
 {
     let [seller, product] = exactly::<2>(arguments)?;
@@ -147,7 +151,7 @@ fn view(arguments: &[Vec<u8>]) -> Result<Ask, WorkRule>
 
 #[tactic(auto, using(crate::proofs::FieldCounts::counts))]
 fn line(arguments: &[Vec<u8>]) -> Result<Ask, WorkRule>
-    ensures exact { result ≡ line_of (map (λ field. field.items) arguments.now) }
+    ensures exact { result ≡ line_ask (map (λ field. field.items) arguments.now) }
     ensures formed { IfOk result IsAsk }
 {
     let [customer, seller, product, quantity, voucher] = exactly::<5>(arguments)?;
@@ -160,7 +164,7 @@ fn line(arguments: &[Vec<u8>]) -> Result<Ask, WorkRule>
 
 #[tactic(auto, using(crate::proofs::FieldCounts::counts))]
 fn remove(arguments: &[Vec<u8>]) -> Result<Ask, WorkRule>
-    ensures exact { result ≡ remove_of (map (λ field. field.items) arguments.now) }
+    ensures exact { result ≡ remove_ask (map (λ field. field.items) arguments.now) }
     ensures formed { IfOk result IsAsk }
 {
     let [customer, seller, product] = exactly::<3>(arguments)?;
@@ -171,7 +175,7 @@ fn remove(arguments: &[Vec<u8>]) -> Result<Ask, WorkRule>
 
 #[tactic(auto, using(crate::proofs::FieldCounts::counts))]
 fn checkout(arguments: &[Vec<u8>]) -> Result<Ask, WorkRule>
-    ensures exact { result ≡ checkout_of (map (λ field. field.items) arguments.now) }
+    ensures exact { result ≡ checkout_ask (map (λ field. field.items) arguments.now) }
     ensures formed { IfOk result IsAsk }
 {
     let [customer] = exactly::<1>(arguments)?;
@@ -181,7 +185,7 @@ fn checkout(arguments: &[Vec<u8>]) -> Result<Ask, WorkRule>
 
 #[tactic(auto, using(crate::proofs::FieldCounts::counts))]
 fn stock(arguments: &[Vec<u8>]) -> Result<Ask, WorkRule>
-    ensures exact { result ≡ stock_of (map (λ field. field.items) arguments.now) }
+    ensures exact { result ≡ stock_ask (map (λ field. field.items) arguments.now) }
     ensures formed { IfOk result IsAsk }
 {
     let [seller, product, pieces] = exactly::<3>(arguments)?;
@@ -192,7 +196,7 @@ fn stock(arguments: &[Vec<u8>]) -> Result<Ask, WorkRule>
 
 #[tactic(auto, using(crate::proofs::FieldCounts::counts))]
 fn level(arguments: &[Vec<u8>]) -> Result<Ask, WorkRule>
-    ensures exact { result ≡ level_of (map (λ field. field.items) arguments.now) }
+    ensures exact { result ≡ level_ask (map (λ field. field.items) arguments.now) }
     ensures formed { IfOk result IsAsk }
 {
     let [seller, product] = exactly::<2>(arguments)?;
@@ -202,7 +206,7 @@ fn level(arguments: &[Vec<u8>]) -> Result<Ask, WorkRule>
 
 #[tactic(auto, using(crate::proofs::FieldCounts::counts))]
 fn order(arguments: &[Vec<u8>]) -> Result<Ask, WorkRule>
-    ensures exact { result ≡ order_of (map (λ field. field.items) arguments.now) }
+    ensures exact { result ≡ order_ask (map (λ field. field.items) arguments.now) }
     ensures formed { IfOk result IsAsk }
 {
     let [caller, number] = exactly::<2>(arguments)?;
@@ -214,7 +218,7 @@ fn order(arguments: &[Vec<u8>]) -> Result<Ask, WorkRule>
 
 #[tactic(auto, using(crate::proofs::FieldCounts::counts))]
 fn card(arguments: &[Vec<u8>]) -> Result<Ask, WorkRule>
-    ensures exact { result ≡ card_of (map (λ field. field.items) arguments.now) }
+    ensures exact { result ≡ card_ask (map (λ field. field.items) arguments.now) }
     ensures formed { IfOk result IsAsk }
 {
     let [customer, limit] = exactly::<2>(arguments)?;
@@ -225,7 +229,7 @@ fn card(arguments: &[Vec<u8>]) -> Result<Ask, WorkRule>
 
 #[tactic(auto, using(crate::proofs::FieldCounts::counts))]
 fn deliver(arguments: &[Vec<u8>]) -> Result<Ask, WorkRule>
-    ensures exact { result ≡ deliver_of (map (λ field. field.items) arguments.now) }
+    ensures exact { result ≡ deliver_ask (map (λ field. field.items) arguments.now) }
     ensures formed { IfOk result IsAsk }
 {
     let [] = exactly::<0>(arguments)?;
@@ -234,7 +238,7 @@ fn deliver(arguments: &[Vec<u8>]) -> Result<Ask, WorkRule>
 
 #[tactic(auto, using(crate::proofs::FieldCounts::counts))]
 fn customer(arguments: &[Vec<u8>]) -> Result<Ask, WorkRule>
-    ensures exact { result ≡ customer_of (map (λ field. field.items) arguments.now) }
+    ensures exact { result ≡ customer_ask (map (λ field. field.items) arguments.now) }
     ensures formed { IfOk result IsAsk }
 {
     let [customer] = exactly::<1>(arguments)?;
@@ -244,7 +248,7 @@ fn customer(arguments: &[Vec<u8>]) -> Result<Ask, WorkRule>
 
 #[tactic(auto, using(crate::proofs::FieldCounts::counts))]
 fn dashboard(arguments: &[Vec<u8>]) -> Result<Ask, WorkRule>
-    ensures exact { result ≡ dashboard_of (map (λ field. field.items) arguments.now) }
+    ensures exact { result ≡ dashboard_ask (map (λ field. field.items) arguments.now) }
     ensures formed { IfOk result IsAsk }
 {
     let [seller] = exactly::<1>(arguments)?;
@@ -254,13 +258,14 @@ fn dashboard(arguments: &[Vec<u8>]) -> Result<Ask, WorkRule>
 
 // The arguments, where there are as many as the kind has.
 fn exactly<const N: usize>(arguments: &[Vec<u8>]) -> Result<&[Vec<u8>; N], WorkRule>
-    ensures { MatchResult result (λ all. (all.now ≡ arguments.now) × (length arguments.now ≡ N)) (λ rule. (rule ≡ WorkRule.Fields) × (length arguments.now ≢ N)) }
+    ensures { MatchResult result (λ all. (all.now ≡ arguments.now)
+        × (length arguments.now ≡ N)) (λ rule. (rule ≡ WorkRule.Fields) × (length arguments.now ≢ N)) }
 {
     arguments.try_into().map_err(|_| WorkRule::Fields)
 }
 
 fn key(seller: &[u8], product: &[u8]) -> Result<ProductKey, WorkRule>
-    ensures { result ≡ key_of seller.now product.now }
+    ensures { result ≡ key_fields seller.now product.now }
 {
     let seller = id_number(seller)?;
     let product = id_number(product)?;
@@ -269,21 +274,21 @@ fn key(seller: &[u8], product: &[u8]) -> Result<ProductKey, WorkRule>
 
 // A number that names something, of 32 bits.
 fn id_number(text: &[u8]) -> Result<u32, WorkRule>
-    ensures { result ≡ id_number_of text.now }
+    ensures { result ≡ id_field text.now }
 {
     let number = number(text, u64::from(u32::MAX))?;
     Ok(number as u32)
 }
 
 fn cents(text: &[u8]) -> Result<Cents, WorkRule>
-    ensures { result ≡ cents_of text.now }
+    ensures { result ≡ cents_field text.now }
 {
     let number = number(text, Cents::MAX)?;
     Cents::try_new(number).map_err(|_| WorkRule::Range)
 }
 
 fn line_quantity(text: &[u8]) -> Result<Quantity, WorkRule>
-    ensures { result ≡ quantity_of text.now }
+    ensures { result ≡ quantity_field text.now }
 {
     let number = number(text, u64::from(Quantity::MAX))?;
     Quantity::try_new(number as u32).map_err(|_| WorkRule::Range)
@@ -291,7 +296,7 @@ fn line_quantity(text: &[u8]) -> Result<Quantity, WorkRule>
 
 // Pieces that are stocked, 1 or more.
 fn stocked_pieces(text: &[u8]) -> Result<u32, WorkRule>
-    ensures value { result ≡ pieces_of text.now }
+    ensures value { result ≡ pieces_field text.now }
     ensures in_range { IfOk result (λ pieces. (1 ≤ pieces) × ArePieces pieces) }
 {
     let number = number(text, MOST_PIECES)?;
@@ -303,7 +308,7 @@ fn stocked_pieces(text: &[u8]) -> Result<u32, WorkRule>
 
 // A number up to a limit, by its spelling and then its range.
 fn number(text: &[u8], limit: u64) -> Result<u64, WorkRule>
-    ensures { result ≡ number_up_to limit text.now }
+    ensures { result ≡ number_field limit text.now }
 {
     read_number(text, limit).map_err(|error| match error {
         NumberError::TooLarge => WorkRule::Range,

@@ -1,8 +1,12 @@
 //! The texts of requests, replies and bodies.
 
-ghost use Rattle.std.specs.Prelude.{◌≡◌, [], ◌++◌, ◌∷◌, ◌==◌, if◌then◌else◌, IfSome, OnErr, OnOk, codes, length, map, take};
+ghost use Rattle.std.specs.Prelude.{◌≡◌, [], ◌++◌, ◌∷◌, ◌==◌, if◌then◌else◌, IfSome, OnErr, OnOk, codes};
+ghost use Rattle.std.specs.Prelude.{length, map, take};
 ghost use Rattle.std.specs.List.{flat_map};
-ghost use Rattle.market_events.specs.Texts.{ask_words, change_words, ending_words, id_text, items_text, key_text, lines_text, pay_rule_text, reply_words, request_words, row_text, spaced, stock_rule_text, text_of_body, text_of_reply, text_of_request, undone_words};
+ghost use Rattle.market_events.specs.Texts.{ask_words, change_words, ending_words, id_text, items_text};
+ghost use Rattle.market_events.specs.Texts.{key_text, lines_text, pay_rule_text, reply_words, request_words};
+ghost use Rattle.market_events.specs.Texts.{row_text, spaced, stock_rule_text, text_of_body, text_of_reply};
+ghost use Rattle.market_events.specs.Texts.{text_of_request, undone_words};
 ghost use Rattle.std.specs.Fmt.{decimal};
 ghost use Rattle.market_events.specs.WellFormed.{IsBody, IsReply, IsRequest};
 
@@ -182,7 +186,10 @@ fn write_dashboard(
     rows: &[EntryRow],
     out: &mut Vec<u8>,
 ) -> Result<(), AllocError>
-    ensures ok { OnOk result (out.new.items ≡ out.old.items ++ spaced (codes "dashboard" ∷ decimal point ∷ decimal entries ∷ decimal amount ∷ map row_text rows.now)) }
+    ensures ok { OnOk result (out.new.items
+        ≡ out.old.items
+        ++ spaced (codes "dashboard" ∷ decimal point ∷ decimal entries ∷ decimal amount
+        ∷ map row_text rows.now)) }
     ensures kept { take (length out.old.items) out.new.items ≡ out.old.items }
 {
     append(format_args!("dashboard {point} {entries} {amount}"), out)?;
@@ -238,7 +245,8 @@ fn write_changed(
     change: Change,
     out: &mut Vec<u8>,
 ) -> Result<(), AllocError>
-    ensures ok { OnOk result (out.new.items ≡ out.old.items ++ spaced (codes "changed" ∷ key_text key ∷ decimal version ∷ change_words change)) }
+    ensures ok { OnOk result (out.new.items
+        ≡ out.old.items ++ spaced (codes "changed" ∷ key_text key ∷ decimal version ∷ change_words change)) }
     ensures err { OnErr result (out.new.items ≡ out.old.items) }
 {
     let key = KeyText(key);
@@ -266,7 +274,9 @@ fn write_checkout(
     lines: &List<PricedLine>,
     out: &mut Vec<u8>,
 ) -> Result<(), AllocError>
-    ensures ok { OnOk result (out.new.items ≡ out.old.items ++ spaced (word.now ∷ id_text checkout ∷ decimal customer ∷ lines_text lines.now ∷ [])) }
+    ensures ok { OnOk result (out.new.items
+        ≡ out.old.items
+        ++ spaced (word.now ∷ id_text checkout ∷ decimal customer ∷ lines_text lines.now ∷ [])) }
     ensures kept { take (length out.old.items) out.new.items ≡ out.old.items }
 {
     append(format_args!("{word} {} {customer} ", IdText(checkout)), out)?;
@@ -283,7 +293,10 @@ fn write_priced(
     total: u64,
     out: &mut Vec<u8>,
 ) -> Result<(), AllocError>
-    ensures ok { OnOk result (out.new.items ≡ out.old.items ++ spaced (word.now ∷ id_text checkout ∷ decimal customer ∷ lines_text lines.now ∷ decimal total ∷ [])) }
+    ensures ok { OnOk result (out.new.items
+        ≡ out.old.items
+        ++ spaced (word.now ∷ id_text checkout ∷ decimal customer ∷ lines_text lines.now ∷ decimal total
+        ∷ [])) }
     ensures kept { take (length out.old.items) out.new.items ≡ out.old.items }
 {
     write_checkout(word, checkout, customer, lines, out)?;
@@ -297,7 +310,9 @@ fn write_reserve_failed(
     rule: StockRule,
     out: &mut Vec<u8>,
 ) -> Result<(), AllocError>
-    ensures ok { OnOk result (out.new.items ≡ out.old.items ++ spaced (codes "reserve_failed" ∷ id_text checkout ∷ key_text key ∷ stock_rule_text rule ∷ [])) }
+    ensures ok { OnOk result (out.new.items
+        ≡ out.old.items
+        ++ spaced (codes "reserve_failed" ∷ id_text checkout ∷ key_text key ∷ stock_rule_text rule ∷ [])) }
     ensures err { OnErr result (out.new.items ≡ out.old.items) }
 {
     let word = stock_word(rule);
@@ -310,7 +325,8 @@ fn write_reserve_failed(
 
 // `ended` ID and how
 fn write_ended(checkout: CheckoutId, ending: Ending, out: &mut Vec<u8>) -> Result<(), AllocError>
-    ensures ok { OnOk result (out.new.items ≡ out.old.items ++ spaced (codes "ended" ∷ id_text checkout ∷ ending_words ending)) }
+    ensures ok { OnOk result (out.new.items
+        ≡ out.old.items ++ spaced (codes "ended" ∷ id_text checkout ∷ ending_words ending)) }
     ensures err { OnErr result (out.new.items ≡ out.old.items) }
 {
     let id = IdText(checkout);
@@ -327,7 +343,9 @@ fn write_failed(
     rule: PayRule,
     out: &mut Vec<u8>,
 ) -> Result<(), AllocError>
-    ensures ok { OnOk result (out.new.items ≡ out.old.items ++ spaced (codes "failed" ∷ id_text checkout ∷ decimal customer ∷ pay_rule_text rule ∷ [])) }
+    ensures ok { OnOk result (out.new.items
+        ≡ out.old.items
+        ++ spaced (codes "failed" ∷ id_text checkout ∷ decimal customer ∷ pay_rule_text rule ∷ [])) }
     ensures err { OnErr result (out.new.items ≡ out.old.items) }
 {
     append(
@@ -339,7 +357,8 @@ fn write_failed(
 // `delivered` ITEMS
 #[tactic(auto, using(crate::proofs::Writing::writing))]
 fn write_delivered(items: &[Item], out: &mut Vec<u8>) -> Result<(), AllocError>
-    ensures ok { OnOk result (out.new.items ≡ out.old.items ++ spaced (codes "delivered" ∷ items_text items.now ∷ [])) }
+    ensures ok { OnOk result (out.new.items
+        ≡ out.old.items ++ spaced (codes "delivered" ∷ items_text items.now ∷ [])) }
     ensures kept { take (length out.old.items) out.new.items ≡ out.old.items }
 {
     append("delivered ", out)?;
@@ -349,7 +368,8 @@ fn write_delivered(items: &[Item], out: &mut Vec<u8>) -> Result<(), AllocError>
 // `asked` REQUEST
 #[tactic(auto, using(crate::proofs::Writing::writing))]
 fn write_asked(request: &Request, out: &mut Vec<u8>) -> Result<(), AllocError>
-    ensures ok { OnOk result (out.new.items ≡ out.old.items ++ spaced (codes "asked" ∷ request_words request.now)) }
+    ensures ok { OnOk result (out.new.items
+        ≡ out.old.items ++ spaced (codes "asked" ∷ request_words request.now)) }
     ensures kept { take (length out.old.items) out.new.items ≡ out.old.items }
 {
     append("asked ", out)?;
@@ -359,7 +379,8 @@ fn write_asked(request: &Request, out: &mut Vec<u8>) -> Result<(), AllocError>
 // `told` ID REPLY
 #[tactic(auto, using(crate::proofs::Writing::writing))]
 fn write_told(id: RequestId, reply: &Reply, out: &mut Vec<u8>) -> Result<(), AllocError>
-    ensures ok { OnOk result (out.new.items ≡ out.old.items ++ spaced (codes "told" ∷ id_text id ∷ reply_words reply.now)) }
+    ensures ok { OnOk result (out.new.items
+        ≡ out.old.items ++ spaced (codes "told" ∷ id_text id ∷ reply_words reply.now)) }
     ensures kept { take (length out.old.items) out.new.items ≡ out.old.items }
 {
     append(format_args!("told {} ", IdText(id)), out)?;

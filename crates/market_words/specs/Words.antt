@@ -1,6 +1,7 @@
--- Single words: what a text is cut into, and what is read of a number, an id and a key. Within one word all spelling comes
--- first, and then the ranges of its numbers.
-use Rattle.std.specs.Prelude.{ℕ, ◌==◌, Bool, nat_eq, if◌then◌else◌, List, [], ◌∷◌, Option, Some, None, Result, Ok, Err}
+-- Single words: what a text is cut into, and what is read of a number, an id and a key. Within one word all
+-- spelling comes first, and then the ranges of its numbers.
+use Rattle.std.specs.Prelude.{ℕ, ◌==◌, Bool, nat_eq, if◌then◌else◌, List, [], ◌∷◌, Option, Some, None, Result}
+use Rattle.std.specs.Prelude.{Ok, Err}
 use Rattle.std.specs.Borrow.{Bor}
 use Rattle.std.specs.Cmp.Lexicographic.{pointwise}
 use Rattle.std.specs.List.{slice_split}
@@ -58,10 +59,12 @@ abbrev pub number_id : List ℕ → Result ℕ WordFault
 number_id text = number_up_to id_max text
 
 abbrev pub key_in : List ℕ → List ℕ → Result ProductKey WordFault
-key_in seller product = onto (λ p. record { seller = p.0; product = p.1 }) (both (number_id seller) (number_id product))
+key_in seller product =
+    onto (λ p. record { seller = p.0; product = p.1 }) (both (number_id seller) (number_id product))
 
 abbrev pub id_of_pieces : List (List ℕ) → Result RequestId WordFault
-id_of_pieces (caller ∷ n ∷ []) = onto (λ p. record { caller = p.0; number = p.1 }) (both (number_id caller) (number_id n))
+id_of_pieces (caller ∷ n ∷ []) =
+    onto (λ p. record { caller = p.0; number = p.1 }) (both (number_id caller) (number_id n))
 id_of_pieces other = Err Field
 
 -- CALLER.NUMBER

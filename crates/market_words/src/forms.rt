@@ -1,7 +1,8 @@
 //! What a word says: a number, a key or an id. All spelling in a word is judged before ranges.
 
 ghost use Rattle.std.specs.Prelude.{◌≡◌};
-ghost use Rattle.market_words.specs.Words.{both, number_id, number_up_to, spelled_number, key_in, id_of, key_of};
+ghost use Rattle.market_words.specs.Words.{both, number_id, number_up_to, spelled_number, key_in, id_of};
+ghost use Rattle.market_words.specs.Words.{key_of};
 
 use crate::faults::WordFault;
 use crate::pieces::Pieces;

@@ -1,4 +1,5 @@
-//! Single words: a text cut into pieces, and the spelling of numbers, ids and keys, both ways. Nothing here knows of events.
+//! Single words: a text cut into pieces, and the spelling of numbers, ids and keys, both ways. Nothing here
+//! knows of events.
 #![tactic(auto)]
 
 mod faults;

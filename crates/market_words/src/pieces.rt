@@ -55,7 +55,8 @@ impl<'a> Pieces<'a> {
 
     /// The next piece, if one is left.
     pub fn next(&mut self) -> Option<&'a [u8]>
-        ensures { MatchOption result ((self.old ≡ []) × (self.new ≡ [])) (λ piece. self.old ≡ piece.now ∷ self.new) }
+        ensures { MatchOption result ((self.old ≡ [])
+            × (self.new ≡ [])) (λ piece. self.old ≡ piece.now ∷ self.new) }
     {
         let (piece, behind) = cut(self.rest?, self.cut_at);
         self.rest = behind;
@@ -64,14 +65,17 @@ impl<'a> Pieces<'a> {
 
     /// The next piece, where the form has one.
     pub fn take(&mut self) -> Result<&'a [u8], WordFault>
-        ensures { MatchResult result (λ piece. self.old ≡ piece.now ∷ self.new) (λ fault. (self.old ≡ []) × (fault ≡ WordFault.Field)) }
+        ensures { MatchResult result (λ piece. self.old ≡ piece.now ∷ self.new) (λ fault. (self.old ≡ [])
+            × (fault ≡ WordFault.Field)) }
     {
         self.next().ok_or(WordFault::Field)
     }
 
     /// The end, where the form has it.
     pub fn end(&mut self) -> Result<(), WordFault>
-        ensures { MatchResult result (λ _. self.old ≡ []) (λ fault. (self.old ≡ slice_index_or self.old 0 [] ∷ self.new) × (fault ≡ WordFault.Field)) }
+        ensures { MatchResult result (λ _. self.old
+            ≡ []) (λ fault. (self.old ≡ slice_index_or self.old 0 [] ∷ self.new)
+            × (fault ≡ WordFault.Field)) }
     {
         match self.next() {
             None => Ok(()),

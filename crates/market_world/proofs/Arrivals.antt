@@ -9,19 +9,20 @@ use Rattle.market_events.specs.declared.events.Event.{Event}
 use Rattle.market_events.specs.declared.events.Offer.TheVariants as offer
 use Rattle.market_events.specs.declared.events.What.TheVariants.{Taken, Made}
 use Rattle.market_events.specs.declared.links.Link.{Link}
+use Rattle.market_events.specs.declared.nodes.TheConstants.{NODES}
 use Rattle.market_events.specs.declared.requests.Request.{Request}
 use Rattle.market_events.specs.Links.{IsLink, lane_node, sender_of, receiver_of}
 use Rattle.market_events.specs.Requests.{lane_of}
 use Rattle.market_events.specs.Services.{fits}
 use Rattle.market_events.specs.WellFormed.{IsRequest, IsWellFormedEvent, IsWellFormedWhat}
-use Rattle.market_events.proofs.OfferLaws.{same_link-true}
+use Rattle.market_events.proofs.Values.Offers.{same_link-true}
 use Rattle.market_history.specs.declared.schedule.Step.TheVariants as step
 use Rattle.market_history.specs.Blocks.{Arrival, grow, inputs_of, role_at, services, steps_of}
-use Rattle.market_history.specs.Histories.{Histories, nodes, journal_at}
+use Rattle.market_history.specs.Histories.{Histories, journal_at}
 use Rattle.market_history.specs.Journals.{CanHappen, IsEntry, IsEvent, IsJournal}
 use Rattle.market_history.specs.Lawful.{IsLawful}
 use Rattle.market_history.specs.Schedule.{with_block, event_at, offered, after_offer, after_offered, play_step}
-use Rattle.market_history.specs.Sent.{made_on, sent}
+use Rattle.market_history.specs.Sent.{event_made_on, sent}
 use Rattle.market_history.specs.Stamps.{EachAfter, clock_in, clock_before}
 use Rattle.market_history.proofs.EntryLaws.{IsJournal-at}
 use Rattle.market_history.proofs.GrowLaws.{entry_of}
@@ -30,17 +31,17 @@ use Rattle.market_history.proofs.StampLaws.{EachAfter-at}
 use Rattle.market_laws.specs.Cuts.{FitsAfter}
 use Rattle.market_laws.specs.Entries.{total_entries}
 use Rattle.market_laws.specs.Fitting.{InTimeAfter, IsInTime}
-use Rattle.market_laws.proofs.AllLaws.{find-at, gathered-at}
-use Rattle.market_laws.proofs.ClockLaws.{clock-few, clocks-few}
-use Rattle.market_laws.proofs.CutPlaces.{grow-first}
-use Rattle.market_laws.proofs.FewLaws.{few, length-few}
-use Rattle.market_laws.proofs.LinkEnds.{receiver-small, sender-small}
-use Rattle.market_laws.proofs.MadeLaws.{made_on-is}
-use Rattle.market_laws.proofs.OutLaws.{lane_of-small}
-use Rattle.market_laws.proofs.PlayLaws.{step_keeps}
-use Rattle.market_laws.proofs.ProperLaws.{histories_are}
-use Rattle.market_laws.proofs.RowAll.{services-fit, lanes-in_time}
-use Rattle.market_laws.proofs.TakenMade.{StandsAt}
+use Rattle.market_laws.proofs.Growth.Members.{find-at, gathered-at}
+use Rattle.market_laws.proofs.Clocks.Bounded.{clock-few, clocks-few}
+use Rattle.market_laws.proofs.Origins.Places.{grow-first}
+use Rattle.market_laws.proofs.Bounds.Few.{few, length-few}
+use Rattle.market_laws.proofs.Bounds.LinkEnds.{receiver-small, sender-small}
+use Rattle.market_laws.proofs.Growth.Made.{made_on-is}
+use Rattle.market_laws.proofs.Growth.Outs.{lane_of-small}
+use Rattle.market_laws.proofs.Growth.Played.{step_keeps}
+use Rattle.market_laws.proofs.Growth.Proper.{histories_are}
+use Rattle.market_laws.proofs.Fits.All.{services-fit, lanes-in_time}
+use Rattle.market_laws.proofs.Growth.Takers.{StandsAt}
 use Rattle.market_node.specs.Keeping.{IsAwaitedBy}
 use Rattle.market_world.specs.Arriving.{CanOffer, CanGive}
 
@@ -62,15 +63,15 @@ record IsMadeThere (h : Histories) (link : Link) (event : Event) : Type 0 where
   clock : event.clock ≤ total_entries h
 
 module _ (h : Histories) (lawful : IsLawful h) where
-  before_few : (n : ℕ) → n < nodes → clock_before (journal_at h n) ≤ total_entries h
+  before_few : (n : ℕ) → n < NODES → clock_before (journal_at h n) ≤ total_entries h
   before_few n lt = last_few (total_entries h) None (journal_at h n) (omega arith) (clocks-few h n lawful lt)
 
   made_there : (link : Link) (number : ℕ) → IsLink link → (event : Event) → event_at h link number ≡ Some event → IsMadeThere h link event
   made_there link number on event found =
       let n = sender_of link in
-      let lt : n < nodes = sender-small link on in
+      let lt : n < NODES = sender-small link on in
       let at = find-at (λ (e : Event). e.number == number) (sent link (journal_at h n)) event found in
-      let place = gathered-at (λ (x : Entry). made_on link x.what) (journal_at h n) at.before event at.after at.is in
+      let place = gathered-at (λ (x : Entry). event_made_on link x.what) (journal_at h n) at.before event at.after at.is in
       let made = made_on-is link place.at.what event place.gives in
       let stands : StandsAt h n place.at = record { node = lt; before = place.before; after = place.after; is = place.is } in
       let entry : IsEntry n (length place.before) place.at =
@@ -94,7 +95,7 @@ module _ (h : Histories) (lawful : IsLawful h) where
     after_lawful : IsLawful after
     after_lawful = subst IsLawful played (step_keeps h (step.Offer link number) lawful tt)
 
-    node_lt : n < nodes
+    node_lt : n < NODES
     node_lt = receiver-small event.link (subst IsLink (sym (made_there link number on event found).on) on)
 
     grown : journal_at after n ≡ grow n (journal_at h n) (Arrival.Takes event)
@@ -115,7 +116,7 @@ module _ (h : Histories) (lawful : IsLawful h) where
   pub can_take : (link : Link) (number : ℕ) → IsLink link → (event : Event) → event_at h link number ≡ Some event → CanOffer (receiver_of event.link) (journal_at h (receiver_of event.link)) event
   can_take link number on event found =
       let made = made_there link number on event found in
-      let lt : receiver_of event.link < nodes = receiver-small event.link (subst IsLink (sym made.on) on) in
+      let lt : receiver_of event.link < NODES = receiver-small event.link (subst IsLink (sym made.on) on) in
       record {
         arrives = record {
           link = made.event_is.link;
@@ -132,7 +133,7 @@ module _ (h : Histories) (lawful : IsLawful h) where
 
   pub can_give : (r : Request) → IsRequest r → CanGive (lane_node (lane_of r.id)) (journal_at h (lane_node (lane_of r.id))) r
   can_give r formed =
-      let lt : lane_node (lane_of r.id) < nodes = omega (arith, lane_of-small r.id) in
+      let lt : lane_node (lane_of r.id) < NODES = omega (arith, lane_of-small r.id) in
       record {
         formed = formed;
         own = refl;

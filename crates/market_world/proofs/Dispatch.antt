@@ -3,7 +3,8 @@ use Rattle.std.proofs.Common.{◌≡◌, ℕ, Bool, true, List, [], if◌then◌
 use Rattle.std.specs.Prelude.{nat_lt}
 use Rattle.market_events.specs.declared.events.Entry.{Entry}
 use Rattle.market_events.specs.Cells.{cells_of}
-use Rattle.market_events.specs.Services.{Role, node_of}
+use Rattle.market_events.specs.declared.roles.Role.{Role}
+use Rattle.market_events.specs.Services.{node_of}
 use Rattle.market_history.specs.Blocks.{inputs_of, role_at, services, service_steps, steps_of}
 use Rattle.market_history.specs.Histories.{Histories, journal_at, with_journal}
 use Rattle.market_world.specs.Cells.{cells_at}

@@ -8,21 +8,22 @@ use Rattle.market_events.specs.declared.events.Event.{Event}
 use Rattle.market_events.specs.declared.links.Link.{Link}
 use Rattle.market_events.specs.Links.{IsLink, index_of, sender_of, receiver_of}
 use Rattle.market_events.specs.Offers.{taken_on}
+use Rattle.market_events.specs.declared.links.TheConstants.{LINKS}
 use Rattle.market_history.specs.Causality.{events_taken}
 use Rattle.market_history.specs.Histories.{Histories, journal_at}
 use Rattle.market_history.specs.Lawful.{IsLawful}
 use Rattle.market_history.specs.Outstanding.{outstanding, IsSettled, IsOldest, is_no_later}
 use Rattle.market_history.specs.Sent.{got, sent}
 use Rattle.market_history.proofs.CoreEntries.{length-filter_map}
-use Rattle.market_laws.proofs.AllLaws.{all-weaker}
-use Rattle.market_laws.proofs.DueLaws.{taken_on-got}
-use Rattle.market_laws.proofs.FewLaws.{few, length-few}
-use Rattle.market_laws.proofs.LinkEnds.{receiver-small}
-use Rattle.market_laws.proofs.OldestPlaces.{came, sent-parts, numbered, out-at}
-use Rattle.market_laws.proofs.OldestWalk.{comes_other, no_later-through, own_later}
+use Rattle.market_laws.proofs.Growth.Members.{all-weaker}
+use Rattle.market_laws.proofs.Growth.Due.{taken_on-got}
+use Rattle.market_laws.proofs.Bounds.Few.{few, length-few}
+use Rattle.market_laws.proofs.Bounds.LinkEnds.{receiver-small}
+use Rattle.market_laws.proofs.Oldest.Places.{came, sent-parts, numbered, out-at}
+use Rattle.market_laws.proofs.Oldest.Walk.{comes_other, no_later-through, own_later}
 use Rattle.market_node.specs.Notes.{event_with}
 use Rattle.market_node.proofs.PlaceLaws.{event_with-at}
-use Rattle.market_world.specs.Waiting.{links_many, first_of, older_of, AreSettledBelow, IsOldestBelow, IsFoundBelow}
+use Rattle.market_world.specs.Waiting.{first_of, older_of, AreSettledBelow, IsOldestBelow, IsFoundBelow}
 use Rattle.market_world.proofs.Linking.{one_index, index_small}
 
 -- the element after a list is the first of what follows
@@ -55,7 +56,7 @@ one_more P n at on is below here link other less = by (index_of link == n) refl
 pub settled-more : (h : Histories) (n : ℕ) (link : Link) → IsLink link → index_of link ≡ n → AreSettledBelow h n → first_of h link ≡ None → AreSettledBelow h (n + 1)
 settled-more h n link on is below none = one_more (λ l. outstanding h l ≡ []) n link on is below (none_of (outstanding h link) none)
 
-pub settled-all : (h : Histories) → AreSettledBelow h links_many → IsSettled h
+pub settled-all : (h : Histories) → AreSettledBelow h LINKS → IsSettled h
 settled-all h below = λ link on. below link on (index_small link on)
 
 module _ (h : Histories) (lawful : IsLawful h) where
@@ -147,7 +148,7 @@ module _ (h : Histories) (lawful : IsLawful h) where
         older-of_both before o event out.0 out.1
 
   -- after all links
-  pub oldest-of_all : (event : Event) → IsOldestBelow h links_many event → IsOldest h event.link event.number
+  pub oldest-of_all : (event : Event) → IsOldestBelow h LINKS event → IsOldest h event.link event.number
   oldest-of_all event o = record {
     event = event;
     named = refl;

@@ -6,8 +6,8 @@ use Rattle.std.proofs.lemmas.List.{length-map, get_or-map, map-set, set-get_or}
 use Rattle.std.proofs.lemmas.List.FromFn.{length-range_with_len, get_or-range_with_len}
 use Rattle.market_events.specs.declared.events.Entry.{Entry}
 use Rattle.market_events.specs.Links.{lane_node}
+use Rattle.market_events.specs.declared.lanes.TheConstants.{LANES}
 use Rattle.market_node.specs.Cores.{CoreState}
-use Rattle.market_world.specs.LanesInside.{lanes_many}
 
 abbrev nodes_in : List CoreState → List ℕ
 nodes_in cores = map (λ (core : CoreState). core.node) cores
@@ -15,24 +15,24 @@ nodes_in cores = map (λ (core : CoreState). core.node) cores
 abbrev entries_in : List CoreState → List (List Entry)
 entries_in cores = map (λ (core : CoreState). core.entries) cores
 
-module _ (cores : List CoreState) (order : nodes_in cores ≡ range_with_len (lane_node 0) lanes_many) where
-  many : length cores ≡ lanes_many
-  many = sym (length-map cores (λ (core : CoreState). core.node)) ∙ ap length order ∙ length-range_with_len (lane_node 0) lanes_many
+module _ (cores : List CoreState) (order : nodes_in cores ≡ range_with_len (lane_node 0) LANES) where
+  many : length cores ≡ LANES
+  many = sym (length-map cores (λ (core : CoreState). core.node)) ∙ ap length order ∙ length-range_with_len (lane_node 0) LANES
 
-  module _ (lane : ℕ) (lt : lane < lanes_many) where
+  module _ (lane : ℕ) (lt : lane < LANES) where
     within : lane < length cores
     within = subst (λ n. lane < n) (sym many) lt
 
     pub node_there : (core : CoreState) → core ≡ get_or cores lane core → core.node ≡ lane_node lane
     node_there core is =
         ap (λ (c : CoreState). c.node) is ∙ sym (get_or-map (λ (c : CoreState). c.node) cores lane core 0 within)
-        ∙ ap (λ ns. get_or ns lane 0) order ∙ get_or-range_with_len (lane_node 0) lanes_many lane 0 lt
+        ∙ ap (λ ns. get_or ns lane 0) order ∙ get_or-range_with_len (lane_node 0) LANES lane 0 lt
 
     -- a core of the lane at its place keeps the order
-    pub order_kept : (core : CoreState) → core.node ≡ lane_node lane → nodes_in (slice_set cores lane core) ≡ range_with_len (lane_node 0) lanes_many
+    pub order_kept : (core : CoreState) → core.node ≡ lane_node lane → nodes_in (slice_set cores lane core) ≡ range_with_len (lane_node 0) LANES
     order_kept core is =
         map-set (λ (c : CoreState). c.node) cores lane core
-        ∙ ap (λ n. slice_set (nodes_in cores) lane n) (is ∙ sym (get_or-range_with_len (lane_node 0) lanes_many lane 0 lt) ∙ ap (λ ns. get_or ns lane 0) (sym order))
+        ∙ ap (λ n. slice_set (nodes_in cores) lane n) (is ∙ sym (get_or-range_with_len (lane_node 0) LANES lane 0 lt) ∙ ap (λ ns. get_or ns lane 0) (sym order))
         ∙ set-get_or (nodes_in cores) lane 0 ∙ order
 
     module _ (h : List (List Entry)) (view : entries_in cores ≡ h) (core : CoreState) (is : core ≡ get_or cores lane core) where

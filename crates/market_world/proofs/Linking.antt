@@ -3,7 +3,7 @@ use Rattle.std.proofs.Common.{◌≡◌, ◌<◌, ap, arith}
 use Rattle.market_events.specs.declared.links.Link.{Link}
 use Rattle.market_events.specs.declared.links.Link.TheVariants.{Service, Asked, Told}
 use Rattle.market_events.specs.Links.{IsLink, index_of}
-use Rattle.market_world.specs.Waiting.{links_many}
+use Rattle.market_events.specs.declared.links.TheConstants.{LINKS}
 
 -- links with one index are one
 pub one_index : (a b : Link) → IsLink a → IsLink b → index_of a ≡ index_of b → a ≡ b
@@ -24,7 +24,7 @@ one_index (Asked i s) (Told t j) one two e = absurd (omega (arith, one.0, one.1)
 one_index (Told s i) (Asked j t) one two e = absurd (omega (arith, two.0, two.1))
 
 -- an index is below the number of links
-pub index_small : (link : Link) → IsLink link → index_of link < links_many
+pub index_small : (link : Link) → IsLink link → index_of link < LINKS
 index_small (Service n) on = omega (arith, on)
 index_small (Asked lane s) on = omega (arith, on.0, on.1)
 index_small (Told s lane) on = omega (arith, on.0, on.1)

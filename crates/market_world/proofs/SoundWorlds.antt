@@ -1,18 +1,18 @@
 -- Lawful histories are sound, and complete where no event is outstanding.
 use Rattle.market_events.specs.Links.{stock_node}
-use Rattle.market_events.specs.Services.{Role}
-use Rattle.market_events.proofs.StockRuns.{reserved-le-on_hand, sold-reserved-le-stocked}
+use Rattle.market_events.specs.declared.roles.Role.{Role}
+use Rattle.market_events.proofs.Runs.Stock.{reserved-le-on_hand, sold-reserved-le-stocked}
 use Rattle.market_history.specs.Blocks.{service_steps}
 use Rattle.market_history.specs.Histories.{Histories, journal_at}
 use Rattle.market_history.specs.Lawful.{IsLawful}
 use Rattle.market_history.specs.Outstanding.{IsSettled}
-use Rattle.market_laws.proofs.CopyFronts.{cart-front, stock-front, cart-shows, stock-shows}
-use Rattle.market_laws.proofs.CutMade.{steps-run}
-use Rattle.market_laws.proofs.Listed.{reserved-listed, listed-wait}
-use Rattle.market_laws.proofs.PastOrder.{taken-first}
-use Rattle.market_laws.proofs.SettledBook.{settled-book}
-use Rattle.market_laws.proofs.SettledDecided.{decided}
-use Rattle.market_laws.proofs.SettledLanes.{lanes-idle, kept-answered}
+use Rattle.market_laws.proofs.Moments.CopyFronts.{cart-front, stock-front, cart-shows, stock-shows}
+use Rattle.market_laws.proofs.Origins.Made.{steps-run}
+use Rattle.market_laws.proofs.Moments.Reservations.{reserved-listed, listed-wait}
+use Rattle.market_laws.proofs.Pasts.Order.{taken-first}
+use Rattle.market_laws.proofs.Book.Tables.{settled-book}
+use Rattle.market_laws.proofs.Settled.Decided.{decided}
+use Rattle.market_laws.proofs.Settled.Lanes.{lanes-idle, kept-answered}
 use Rattle.market_world.specs.Sound.{IsSound, IsComplete}
 
 pub sound_of : (h : Histories) → IsLawful h → IsSound h

@@ -17,7 +17,7 @@ use Rattle.market_history.specs.declared.schedule.Step.TheVariants as step
 use Rattle.market_history.specs.Histories.{Histories, journal_at, with_journal}
 use Rattle.market_history.specs.Lawful.{IsLawful}
 use Rattle.market_history.specs.Schedule.{event_at, offered, gave, after_give, after_offer, after_offered, outcome_of, outcome_of_offer, play_step}
-use Rattle.market_laws.proofs.PlayLaws.{step_keeps}
+use Rattle.market_laws.proofs.Growth.Played.{step_keeps}
 use Rattle.market_world.specs.Arriving.{after_offer_of, after_give_of}
 
 -- histories with the journal that they have

@@ -25,7 +25,8 @@ use Rattle.market_node.specs.Keeping.{IsAwaitedBy}
 pub record CanOffer (n : ℕ) (entries : List Entry) (event : Event) : Type 0 where
   pub arrives : CanArrive n entries event
   pub own : AsksOwn event.link event.body
-  pub fitting : n < services → offer_of n (events_taken entries) event ≡ offer.Take → fits (role_at n) (steps_of (role_at n) (inputs_of entries)) event.link event.body ≡ true
+  pub fitting : n < services → offer_of n (events_taken entries) event ≡ offer.Take
+      → fits (role_at n) (steps_of (role_at n) (inputs_of entries)) event.link event.body ≡ true
   pub awaited : offer_of n (events_taken entries) event ≡ offer.Take → IsAwaitedBy entries event.body
 
 -- the request can be given to the lane with this journal

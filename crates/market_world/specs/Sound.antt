@@ -5,16 +5,16 @@ use Rattle.market_amounts.specs.declared.keys.ProductKey.{ProductKey}
 use Rattle.market_amounts.specs.declared.keys.RequestId.{RequestId}
 use Rattle.market_events.specs.declared.events.Entry.{Entry}
 use Rattle.market_events.specs.declared.events.Event.{Event}
+use Rattle.market_events.specs.declared.lanes.TheConstants.{LANES}
 use Rattle.market_events.specs.declared.links.Link.TheVariants.{Service}
 use Rattle.market_events.specs.declared.requests.Request.{Request}
 use Rattle.market_events.specs.Carts.{changes_taken}
 use Rattle.market_events.specs.Links.{lane_node, receiver_of}
 use Rattle.market_events.specs.Products.{changes_made}
-use Rattle.market_events.specs.Requests.{lanes}
-use Rattle.market_events.specs.Services.{Role}
+use Rattle.market_events.specs.declared.roles.Role.{Role}
 use Rattle.market_events.specs.Stocks.{Reservation, on_hand, pieces_of, reserved, sold, stocked}
 use Rattle.market_history.specs.Blocks.{service_steps}
-use Rattle.market_history.specs.Book.{IsBook, tables_of}
+use Rattle.market_history.specs.Book.{IsBook, tables_at_end}
 use Rattle.market_history.specs.Causality.{IsBefore, events_taken}
 use Rattle.market_history.specs.Checkouts.{is_kept_checkout, listed_reservations, IsDecided}
 use Rattle.market_history.specs.Histories.{Histories, journal_at}
@@ -47,8 +47,8 @@ pub record IsSound (h : Histories) : Type 0 where
   pub stock_took :
       IsPrefixOf (changes_taken (service_steps h Role.Stock)) (changes_made (service_steps h Role.Product))
   -- so their copies show what some first changes leave of each product
-  pub cart_shows : ShowsFirst (tables_of h).cart_copy (changes_made (service_steps h Role.Product))
-  pub stock_shows : ShowsFirst (tables_of h).stock_copy (changes_made (service_steps h Role.Product))
+  pub cart_shows : ShowsFirst (tables_at_end h).cart_copy (changes_made (service_steps h Role.Product))
+  pub stock_shows : ShowsFirst (tables_at_end h).stock_copy (changes_made (service_steps h Role.Product))
   -- no node takes an event before one that is before it and comes to this node on a service link
   pub taken_first : (n k : ℕ) (f e : Event) (taken : List Entry)
       → f.link ≡ Service k → receiver_of (Service k) ≡ n
@@ -57,8 +57,9 @@ pub record IsSound (h : Histories) : Type 0 where
 -- where no event is outstanding
 pub record IsComplete (h : Histories) : Type 0 where
   -- no lane waits, and each kept request has its reply
-  pub idle : (lane : ℕ) → lane < lanes → is_waiting (journal_at h (lane_node lane)) ≡ false
-  pub answered : (lane : ℕ) (r : Request) → lane < lanes → Member r (kept_by h lane) → is_some (reply_at h r.id) ≡ true
+  pub idle : (lane : ℕ) → lane < LANES → is_waiting (journal_at h (lane_node lane)) ≡ false
+  pub answered : (lane : ℕ) (r : Request) → lane < LANES → Member r (kept_by h lane)
+      → is_some (reply_at h r.id) ≡ true
   -- each checkout is whole or undone
   pub decided : (c : RequestId) → is_kept_checkout h c ≡ true → IsDecided h c
   -- every table is the sum of what was accepted

@@ -7,10 +7,6 @@ use Rattle.market_events.specs.Links.{IsLink, index_of}
 use Rattle.market_history.specs.Histories.{Histories}
 use Rattle.market_history.specs.Outstanding.{outstanding, is_no_later}
 
--- how many links there are
-abbrev pub links_many : ℕ
-links_many = 272
-
 -- the first event of the link that is outstanding
 abbrev pub first_of : Histories → Link → Option Event
 first_of h link = slice_get (outstanding h link) 0
@@ -24,7 +20,8 @@ pub record IsOldestBelow (h : Histories) (n : ℕ) (event : Event) : Type 0 wher
   pub on : IsLink event.link
   pub rest : List Event
   pub first : outstanding h event.link ≡ event ∷ rest
-  pub least : (link : Link) → IsLink link → index_of link < n → AllByRecursion (λ (e : Event). is_no_later event e ≡ true) (outstanding h link)
+  pub least : (link : Link) → IsLink link → index_of link < n
+      → AllByRecursion (λ (e : Event). is_no_later event e ≡ true) (outstanding h link)
 
 -- the oldest of the events that wait on the links before the one with this index, where any does
 abbrev pub IsFoundBelow : Histories → ℕ → Option Event → Type 0

@@ -2,7 +2,8 @@
 
 ghost use Rattle.std.specs.Prelude.{◌≡◌, ◌<◌, IfOk};
 ghost use Rattle.std.specs.Option.{option_copied};
-ghost use Rattle.market_events.specs.Links.{IsLink, lane_node, sender_of as sender_by_link, receiver_of as receiver_by_link};
+ghost use Rattle.market_events.specs.Links.{IsLink, lane_node, sender_of as sender_by_link};
+ghost use Rattle.market_events.specs.Links.{receiver_of as receiver_by_link};
 ghost use Rattle.market_events.specs.Offers.{offer_of, taken_on};
 ghost use Rattle.market_events.specs.Requests.{lane_of};
 ghost use Rattle.market_events.specs.Services.{node_of};
@@ -13,13 +14,15 @@ ghost use Rattle.market_history.specs.Schedule.{gave, offered};
 ghost use Rattle.market_node.specs.Notes.{event_with};
 ghost use Rattle.market_world.specs.Arriving.{CanOffer, CanGive, after_offer_of, after_give_of};
 ghost use Rattle.market_world.specs.Cells.{cells_at};
-ghost use Rattle.market_world.specs.Starting.{IsNew};
+ghost use Rattle.market_world.specs.Starting.{IsEmptyCore};
 
 use crate::lanes::Lanes;
 use crate::places::{Place, place_of};
 use cart_service::Carts;
 use customer_service::Customers;
-use market_events::{Cell, Event, Link, Node, Offer, Request, Service, receiver_of, sender_of};
+use market_events::{
+    Cell, Event, LANES, Link, Node, Offer, Request, Service, receiver_of, sender_of,
+};
 use market_history::{Give, Journal};
 use market_node::NodeCore;
 use order_service::Orders;
@@ -30,8 +33,6 @@ use shipment_service::Shipments;
 use std::alloc::{AllocError, Global};
 use std::marker::Model;
 use stock_service::Stocks;
-
-const LANES: u32 = 16;
 
 // The cores of all nodes. Contracts see the entries of each, from node 0 on.
 #[derive(Drop)]
@@ -149,12 +150,15 @@ impl Cores {
         }
     }
 
-    // Offers an event to the receiver of its link. On want of memory, and where it is not taken, nothing changes.
+    // Offers an event to the receiver of its link. On want of memory, and where it is not taken, nothing
+    // changes.
     pub fn take(&mut self, event: &Event) -> Result<Offer, AllocError>
-        requires { CanOffer (receiver_by_link event.now.link) (journal_at self.old (receiver_by_link event.now.link)) event.now }
+        requires { CanOffer (receiver_by_link event.now.link)
+            (journal_at self.old (receiver_by_link event.now.link)) event.now }
         ensures offers { IfOk result (λ offer. offer ≡ offered self.old event.now) }
         ensures after { self.new ≡ with_journal self.old (receiver_by_link event.now.link)
-            (after_offer_of (receiver_by_link event.now.link) (journal_at self.old (receiver_by_link event.now.link)) event.now result) }
+            (after_offer_of (receiver_by_link event.now.link)
+            (journal_at self.old (receiver_by_link event.now.link)) event.now result) }
     {
         match place_of(receiver_of(event.link)) {
             Place::Cart => take_at(&mut self.cart, event),
@@ -171,10 +175,12 @@ impl Cores {
 
     // Gives a request to its lane. On want of memory, and where it is not asked, nothing changes.
     pub fn give(&mut self, request: &Request) -> Result<Give, AllocError>
-        requires { CanGive (lane_node (lane_of request.now.id)) (journal_at self.old (lane_node (lane_of request.now.id))) request.now }
+        requires { CanGive (lane_node (lane_of request.now.id))
+            (journal_at self.old (lane_node (lane_of request.now.id))) request.now }
         ensures gives { IfOk result (λ give. give ≡ gave self.old request.now) }
         ensures after { self.new ≡ with_journal self.old (lane_node (lane_of request.now.id))
-            (after_give_of (lane_node (lane_of request.now.id)) (journal_at self.old (lane_node (lane_of request.now.id))) request.now result) }
+            (after_give_of (lane_node (lane_of request.now.id))
+            (journal_at self.old (lane_node (lane_of request.now.id))) request.now result) }
     {
         let lane = request.id.caller % LANES;
         self.lanes.give(lane as usize, request)
@@ -208,10 +214,10 @@ struct FrontCores {
 
 impl FrontCores {
     fn new(alloc: Global) -> Result<FrontCores, AllocError>
-        ensures cart { IfOk result (λ cores. IsNew 0 cores.cart) }
-        ensures product { IfOk result (λ cores. IsNew 1 cores.product) }
-        ensures stock { IfOk result (λ cores. IsNew 2 cores.stock) }
-        ensures order { IfOk result (λ cores. IsNew 3 cores.order) }
+        ensures cart { IfOk result (λ cores. IsEmptyCore 0 cores.cart) }
+        ensures product { IfOk result (λ cores. IsEmptyCore 1 cores.product) }
+        ensures stock { IfOk result (λ cores. IsEmptyCore 2 cores.stock) }
+        ensures order { IfOk result (λ cores. IsEmptyCore 3 cores.order) }
     {
         Ok(FrontCores {
             cart: NodeCore::new(alloc, node_at(0), Carts::new(alloc))?,
@@ -232,10 +238,10 @@ struct BackCores {
 
 impl BackCores {
     fn new(alloc: Global) -> Result<BackCores, AllocError>
-        ensures payment { IfOk result (λ cores. IsNew 4 cores.payment) }
-        ensures shipment { IfOk result (λ cores. IsNew 5 cores.shipment) }
-        ensures customer { IfOk result (λ cores. IsNew 6 cores.customer) }
-        ensures seller { IfOk result (λ cores. IsNew 7 cores.seller) }
+        ensures payment { IfOk result (λ cores. IsEmptyCore 4 cores.payment) }
+        ensures shipment { IfOk result (λ cores. IsEmptyCore 5 cores.shipment) }
+        ensures customer { IfOk result (λ cores. IsEmptyCore 6 cores.customer) }
+        ensures seller { IfOk result (λ cores. IsEmptyCore 7 cores.seller) }
     {
         Ok(BackCores {
             payment: NodeCore::new(alloc, node_at(4), Payments::new(alloc))?,
@@ -258,7 +264,8 @@ fn node_at(service: u8) -> Node
 fn take_at<S: Service>(core: &mut NodeCore<S>, event: &Event) -> Result<Offer, AllocError>
     requires service { core.old.node ≡ node_of S.role }
     requires can { CanOffer core.old.node core.old.entries event.now }
-    ensures offers { IfOk result (λ offer. offer ≡ offer_of core.old.node (events_taken core.old.entries) event.now) }
+    ensures offers { IfOk result (λ offer. offer
+        ≡ offer_of core.old.node (events_taken core.old.entries) event.now) }
     ensures node { core.new.node ≡ core.old.node }
     ensures after { core.new.entries ≡ after_offer_of core.old.node core.old.entries event.now result }
 {

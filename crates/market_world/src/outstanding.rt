@@ -11,12 +11,11 @@ ghost use Rattle.market_history.specs.Schedule.{outcome_of};
 ghost use Rattle.market_world.specs.Sound.{IsComplete};
 ghost use Rattle.market_world.specs.Waiting.{older_of};
 
-use crate::links::{LINKS, link_at};
 use crate::world::World;
-use market_events::{Event, Link, sender_of};
+use market_events::{Event, LINKS, Link, link_at, sender_of};
 
-/// Whether no event is outstanding: each that was made was taken. Then every kept request has its reply, every checkout is
-/// whole or undone, and every table is the sum of what was accepted. It takes no memory.
+/// Whether no event is outstanding: each that was made was taken. Then every kept request has its reply,
+/// every checkout is whole or undone, and every table is the sum of what was accepted. It takes no memory.
 pub fn settled(world: &World) -> bool
     ensures settled { IsTrue result ↔ IsSettled world.now }
     ensures complete { IsTrue result → IsComplete world.now }
@@ -29,13 +28,14 @@ pub fn settled(world: &World) -> bool
     true
 }
 
-/// The link and the number of the outstanding event with the least clock, and of those with the least sending node; none
-/// where no event is outstanding. Where it is offered, it is taken. It takes no memory.
+/// The link and the number of the outstanding event with the least clock, and of those with the least sending
+/// node; none where no event is outstanding. Where it is offered, it is taken. It takes no memory.
 pub fn oldest(world: &World) -> Option<(Link, u32)>
     ensures none { IsNone result ↔ IsSettled world.now }
     ensures link { IfSome result (λ found. IsLink found.0) }
     ensures oldest { IfSome result (λ found. IsOldest world.now found.0 found.1) }
-    ensures taken { IfSome result (λ found. outcome_of world.now (step.Offer found.0 found.1) ≡ outcome.Offered offer.Take) }
+    ensures taken { IfSome result (λ found. outcome_of world.now (step.Offer found.0 found.1)
+        ≡ outcome.Offered offer.Take) }
 {
     let mut found: Option<&Event> = None;
     for index in 0..LINKS {
@@ -60,7 +60,8 @@ fn older<'a>(found: Option<&'a Event>, first: Option<&'a Event>) -> Option<&'a E
     }
 }
 
-// Whether the first comes before the second, or with it: by clock, and by the sender where the clocks are equal.
+// Whether the first comes before the second, or with it: by clock, and by the sender where the clocks are
+// equal.
 fn is_no_later(a: &Event, b: &Event) -> bool
     requires first { IsLink a.now.link }
     requires second { IsLink b.now.link }

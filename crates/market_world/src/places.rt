@@ -3,9 +3,7 @@
 ghost use Rattle.std.specs.Prelude.{◌≡◌};
 ghost use Rattle.market_world.specs.Places.{node_at, IsPlace};
 
-use market_events::Node;
-
-const FIRST_LANE: u32 = 8;
+use market_events::{Node, SERVICES};
 
 // Where a core stands: it is that of a service, or of a lane, 0 to 15.
 #[derive(Clone, Copy)]
@@ -35,6 +33,6 @@ pub fn place_of(node: Node) -> Place
         5 => Place::Shipment,
         6 => Place::Customer,
         7 => Place::Seller,
-        number => Place::Lane((number - FIRST_LANE) as usize),
+        number => Place::Lane((number - SERVICES) as usize),
     }
 }

@@ -13,15 +13,14 @@ ghost use Rattle.market_world.specs.Waiting.{first_of};
 
 use crate::copies::copy_of;
 use crate::cores::Cores;
-use market_events::{Cell, Event, Link, Node, Request};
+use market_events::{Cell, Event, Link, NODES, Node, Request};
 use market_history::{Histories, Journal, Outcome, Step};
 use std::alloc::{AllocError, Global};
 use std::marker::Model;
 
-const NODES: u32 = 24;
-
-/// The cores of all nodes, without rings. Every event that was made can be offered at once, again and in any order.
-/// Contracts see the histories: the entries of each node's journal, from node 0 on. They are lawful at every moment.
+/// The cores of all nodes, without rings. Every event that was made can be offered at once, again and in any
+/// order. Contracts see the histories: the entries of each node's journal, from node 0 on. They are lawful at
+/// every moment.
 #[derive(Drop)]
 pub struct World {
     alloc: Global,

@@ -7,22 +7,23 @@ use Rattle.market_amounts.specs.declared.keys.RequestId.{RequestId}
 use Rattle.market_events.specs.declared.bodies.Body.TheVariants as body
 use Rattle.market_events.specs.declared.bodies.Item.{Item}
 use Rattle.market_events.specs.declared.bodies.PricedLine.{PricedLine}
-use Rattle.market_events.specs.Orders.{checkouts_taken, is_of, items_in, items_taken, is_item_of, same_item, item_of, is_left, lines_left, open_lines}
+use Rattle.market_events.specs.Orders.{checkouts_taken, is_of, items_in, items_taken, is_item_of, same_item, item_of, is_left, lines_left, open_lines, order_status}
 use Rattle.market_events.specs.Requests.{same_id, same_key}
-use Rattle.market_events.specs.Services.{Role, IsRunOf, items_apart, is_line_of, order_fits, order_item_fits}
+use Rattle.market_events.specs.Services.{IsRunOf, items_apart, is_line_of, order_fits, order_item_fits}
 use Rattle.market_events.specs.Steps.{Step}
 use Rattle.market_events.specs.Stocks.{Reservation, reservation_in}
 use Rattle.market_events.specs.WellFormed.{keys_rise}
-use Rattle.market_events.proofs.ListLaws.{and_both, and_from, and_true, or_false, not_true, false_from, list_any-push, count-some}
-use Rattle.market_events.proofs.OrderLaws.{items_taken-push, checkouts_taken-same}
-use Rattle.market_events.proofs.OrderRuns.{OrderRun, OrderRun-of}
-use Rattle.market_events.proofs.ReservationLaws.{found-is, listed-found, found_with}
-use Rattle.market_events.proofs.SameLaws.{same_id-true, same_key-true, same_key-swap}
-use Rattle.market_events.proofs.StatusLaws.{is_shipped_status, order_at, item-fits}
-use Rattle.market_events.proofs.StockRuns.{lines_formed-rise}
-use Rattle.market_events.proofs.TotalLaws.{is_formed, orders_formed, found-passes, keyed_once}
-use Rattle.market_events.specs.Orders.{order_status}
-use Rattle.order_service.specs.Kept.{is_own, customer_of, order_customer}
+use Rattle.market_events.proofs.Values.Lists.{and_both, and_from, and_true, or_false, not_true, false_from, list_any-push, count-some}
+use Rattle.market_events.proofs.Steps.Orders.{items_taken-push, checkouts_taken-same}
+use Rattle.market_events.proofs.Runs.Orders.{OrderRun, OrderRun-of}
+use Rattle.market_events.proofs.Steps.Reservations.{found-is, listed-found, found_with}
+use Rattle.market_events.proofs.Values.Same.{same_id-true, same_key-true, same_key-swap}
+use Rattle.market_events.proofs.Runs.OrderStatuses.{is_shipped_status, order_at, item-fits}
+use Rattle.market_events.proofs.Runs.Stock.{lines_formed-rise}
+use Rattle.market_events.proofs.Runs.Totals.{is_formed, orders_formed, found-passes, keyed_once}
+use Rattle.order_service.specs.Tables.{is_own}
+use Rattle.order_service.specs.Holds.{order_customer, customer_reserved}
+use Rattle.market_events.specs.declared.roles.Role.{Role}
 
 -- the lines of a product
 abbrev with_key : ProductKey → List PricedLine → List PricedLine
@@ -147,7 +148,7 @@ open_lines-left steps s items run is fit id r found =
     let left : open_lines (steps ++ s ∷ []) id ≡ filter (is_left (items_taken steps ++ items) r) r.lines
     = (λ i. flat_map (lines_left ((items_taken-push steps s ∙ ap (λ b. items_taken steps ++ items_in b) is) i) id) (checkouts_taken-same steps s (ap reservation_in is) i))
     ∙ listed-found (λ (r : Reservation). filter (is_left (items_taken steps ++ items) r) r.lines) id (checkouts_taken steps) r once found in
-    (λ i. length (left i) + count_by (is_own (sym (found-is id (checkouts_taken steps) r found) i) (ap customer_of found i)) items)
+    (λ i. length (left i) + count_by (is_own (sym (found-is id (checkouts_taken steps) r found) i) (ap customer_reserved found i)) items)
     ∙ all_items r r.lines (lines_rise steps run id r found) (items_taken steps) items both.0
     (weaker (order_item_fits steps) (is_among_lines r r.lines) (item_line steps (OrderRun-of steps run) id r found) items both.1)
     ∙ ap length (sym was)

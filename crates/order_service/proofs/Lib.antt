@@ -1,5 +1,7 @@
+pub mod Written
 pub mod Sums
 pub mod Deliveries
 pub mod Steps
-pub mod Joining
-pub mod OrderCells
+pub mod TableCells
+pub mod Values
+pub mod Touches

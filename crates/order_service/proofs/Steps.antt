@@ -1,4 +1,4 @@
--- What one more step makes of what is kept of orders.
+-- What one more step makes of what is kept of orders, and of what is told.
 use Rattle.std.proofs.Common.{◌≡◌, ℕ, ◌+◌, ◌-◌, ◌≤◌, ◌==◌, Bool, true, false, ◌&&◌, nat_lt, List, [], ◌∷◌, ◌++◌, Option, Some, None, is_some, option_map, length, if◌then◌else◌, refl, ap, sym, subst, ◌∙◌, count_by, arith}
 use Rattle.std.proofs.lemmas.Bool.Decides.{nat_tests}
 use Rattle.std.specs.List.{list_any, list_all}
@@ -10,23 +10,32 @@ use Rattle.market_events.specs.declared.bodies.PricedLine.{PricedLine}
 use Rattle.market_events.specs.declared.replies.OrderStatus.{OrderStatus}
 use Rattle.market_events.specs.declared.replies.OrderStatus.TheVariants as status
 use Rattle.market_events.specs.Formed.{body_formed}
-use Rattle.market_events.specs.Orders.{checkouts_taken, is_of, items_in, items_taken, open_lines, ships, is_taken, is_nil, order_status, order_total}
+use Rattle.market_events.specs.Orders.{checkouts_taken, is_of, items_in, items_taken, open_lines, ships, is_taken, is_nil, order_status, order_total, order_rows, order_sums}
 use Rattle.market_events.specs.Requests.{same_id}
-use Rattle.market_events.specs.Services.{Role, IsRunOf, order_fits, order_item_fits, items_apart, is_line_of}
+use Rattle.market_events.specs.Services.{IsRunOf, order_fits, order_item_fits, items_apart, is_line_of, fits, reactions}
 use Rattle.market_events.specs.Steps.{Step}
 use Rattle.market_events.specs.Stocks.{Reservation, reservation_in, confirms, fails}
 use Rattle.market_events.specs.WellFormed.{total_of}
-use Rattle.market_events.proofs.ListLaws.{and_both, not_true, false_from, true_from, all-any}
-use Rattle.market_events.proofs.OrderLaws.{has_order-same, order_total-same, order_total-confirmed, order_total-new, open_lines-same, open_lines-other, open_lines-new, open_lines-undelivered, status_by}
-use Rattle.market_events.proofs.OrderRuns.{OrderRun, OrderRun-of, is_item_for, lines_formed-some}
-use Rattle.market_events.proofs.ReservationLaws.{none-found}
-use Rattle.market_events.proofs.SameLaws.{same_id-self, same_id-true}
-use Rattle.market_events.proofs.StatusLaws.{has_order-by_status, order_at, order_at-same, order_at-confirmed, order_status-same, order_status-other, order_status-invoiced, order_status-paid, order_status-cancelled, order_status-shipped, order_status-delivered, order_status-undelivered}
-use Rattle.market_events.proofs.StockRuns.{checkout_formed-lines}
-use Rattle.order_service.specs.declared.order.Order.{Order}
-use Rattle.order_service.specs.Kept.{open_in, new_order, with_status, with_delivered, is_own, item_count, order_after, customer_of, order_customer, order_by}
+use Rattle.market_events.proofs.Values.Lists.{and_both, not_true, false_from, true_from, all-any}
+use Rattle.market_events.proofs.Steps.Orders.{has_order-same, order_total-same, order_total-confirmed, order_total-new, open_lines-same, open_lines-other, open_lines-new, open_lines-undelivered, status_by}
+use Rattle.market_events.proofs.Runs.Orders.{OrderRun, OrderRun-of, is_item_for, lines_formed-some, answers-order}
+use Rattle.market_events.proofs.Steps.Reservations.{none-found, sum-none}
+use Rattle.market_events.proofs.Values.Same.{same_id-self, same_id-true}
+use Rattle.market_events.proofs.Runs.OrderStatuses.{has_order-by_status, order_at, order_at-same, order_at-confirmed, order_status-same, order_status-other, order_status-invoiced, order_status-paid, order_status-cancelled, order_status-shipped, order_status-delivered, order_status-undelivered}
+use Rattle.market_events.proofs.Runs.Stock.{checkout_formed-lines}
+use Rattle.order_service.specs.declared.tables.Order.{Order}
+use Rattle.order_service.specs.Tables.{open_in, new_order, with_status, with_delivered, is_own, item_count, order_after, order_at as kept_at, status_in, sums_at, total_of_order}
 use Rattle.order_service.proofs.Deliveries.{open_lines-left}
-use Rattle.order_service.proofs.Sums.{with_delivered-zero, item_count-none}
+use Rattle.order_service.proofs.Sums.{with_delivered-zero, item_count-none, item_count-nil}
+use Rattle.std.proofs.Math.Bool.{Bool-set}
+use Rattle.std.proofs.Math.Logic.{∥∥₁_elim}
+use Rattle.std.specs.Coded.{le_prop}
+use Rattle.market_events.specs.declared.links.Link.{Link}
+use Rattle.market_events.specs.Standing.{Stands, CanTake, step_of, with_step}
+use Rattle.market_events.proofs.Runs.Standing.{reactions-fit}
+use Rattle.market_events.proofs.Steps.Taken.{fits-parts}
+use Rattle.order_service.specs.Holds.{order_customer, order_by, order_customer, order_by, Holds, customer_reserved}
+use Rattle.market_events.specs.declared.roles.Role.{Role}
 
 -- an order with this status, where there is one
 abbrev pub order_of : Option OrderStatus → ℕ → ℕ → ℕ → Option Order
@@ -34,7 +43,7 @@ order_of st customer total left = option_map (λ (st : OrderStatus). record { cu
 
 -- the customer: a step whose body confirms no checkout
 customer-same : (steps : List Step) (s : Step) (id : RequestId) → reservation_in s.body ≡ None → order_customer (steps ++ s ∷ []) id ≡ order_customer steps id
-customer-same steps s id none = ap customer_of (order_at-same steps s id none)
+customer-same steps s id none = ap customer_reserved (order_at-same steps s id none)
 
 -- a step that leaves all four of a checkout
 same_order : (steps : List Step) (s : Step) (id : RequestId) → order_customer (steps ++ s ∷ []) id ≡ order_customer steps id → order_status (steps ++ s ∷ []) id ≡ order_status steps id → order_total (steps ++ s ∷ []) id ≡ order_total steps id → open_lines (steps ++ s ∷ []) id ≡ open_lines steps id
@@ -87,8 +96,8 @@ invoices steps s checkout customer lines runs is fit some id = either (same_id c
         let total = order_total-new steps s checkout customer lines is new in
         let left = open_lines-new steps s checkout customer lines is new undelivered in
         let who : order_customer (steps ++ s ∷ []) checkout ≡ customer
-        = ap customer_of (order_at-confirmed steps s checkout customer lines is new checkout)
-        ∙ ap (λ b. customer_of (if b then Some (record { checkout = checkout; customer = customer; lines = lines }) else order_at steps checkout)) (same_id-self checkout) in
+        = ap customer_reserved (order_at-confirmed steps s checkout customer lines is new checkout)
+        ∙ ap (λ b. customer_reserved (if b then Some (record { checkout = checkout; customer = customer; lines = lines }) else order_at steps checkout)) (same_id-self checkout) in
         λ i. order_of (st i) (who i) (total i) (length (left i))
 
     no_more : (b : Bool) → b ≡ false → order_total steps id + (if b then total_of lines else 0) ≡ order_total steps id
@@ -99,8 +108,8 @@ invoices steps s checkout customer lines runs is fit some id = either (same_id c
     either true same = subst (λ id. order_by (steps ++ s ∷ []) id ≡ Some (new_order customer lines)) (same_id-true checkout id same) at
     either false other =
         same_order steps s id
-        (ap customer_of (order_at-confirmed steps s checkout customer lines is new id)
-        ∙ ap (λ b. customer_of (if b then Some (record { checkout = checkout; customer = customer; lines = lines }) else order_at steps id)) other)
+        (ap customer_reserved (order_at-confirmed steps s checkout customer lines is new id)
+        ∙ ap (λ b. customer_reserved (if b then Some (record { checkout = checkout; customer = customer; lines = lines }) else order_at steps id)) other)
         (order_status-other steps s checkout customer lines is id other)
         (order_total-confirmed steps s checkout customer lines is id ∙ no_more (same_id checkout id) other)
         (open_lines-other steps s checkout customer lines is id other)
@@ -227,3 +236,56 @@ by_body steps s other is run fit formed id = cc
 
 pub order_by-push : (steps : List Step) (s : Step) → IsRunOf Role.Order steps → order_fits steps s.body ≡ true → body_formed s.body ≡ true → (id : RequestId) → order_by (steps ++ s ∷ []) id ≡ order_after (order_by steps) s.body id
 order_by-push steps s run fit formed id = by_body steps s s.body refl run fit formed id
+
+-- what the steps say of the status and the total
+status_in-order_by : (steps : List Step) (id : RequestId) → status_in (order_by steps id) ≡ order_status steps id
+status_in-order_by steps id = either (order_status steps id)
+  where
+    either : (o : Option OrderStatus) → status_in (order_of o (order_customer steps id) (order_total steps id) (length (open_lines steps id))) ≡ o
+    either None = refl
+    either (Some st) = refl
+
+total_in-order_by : (steps : List Step) (id : RequestId) → total_of_order (order_by steps id) ≡ order_total steps id
+total_in-order_by steps id = either (order_status steps id) refl
+  where
+    either : (o : Option OrderStatus) → order_status steps id ≡ o → total_of_order (order_of o (order_customer steps id) (order_total steps id) (length (open_lines steps id))) ≡ order_total steps id
+    either None none = sym (sum-none (λ (r : Reservation). total_of r.lines) id (checkouts_taken steps) (has_order-by_status steps id ∙ ap is_some none))
+    either (Some st) some = refl
+
+-- the table has the sums of the steps
+sums_same : (table : List (RequestId × Order)) (steps : List Step) → Holds table steps → sums_at table ≡ order_sums steps
+sums_same table steps held =
+    λ i. record {
+      status = λ id. (ap status_in (held.each id) ∙ status_in-order_by steps id) i;
+      total = λ id. (ap total_of_order (held.each id) ∙ total_in-order_by steps id) i;
+    }
+
+module _ (table : List (RequestId × Order)) (steps : List Step) (from : Link) (b : Body) (stands : Stands Role.Order Holds table steps) (fit : fits Role.Order steps from b ≡ true) where
+  -- what is made
+  pub makes : order_rows (sums_at table) b ≡ reactions Role.Order steps from b
+  makes =
+      ap (λ sums. order_rows sums b) (sums_same table steps stands.held) ∙ sym (answers-order steps from b)
+      ∙ sym (reactions-fit Role.Order steps from b fit)
+
+  -- what is kept
+  pub keeps : (now : List (RequestId × Order)) → ((id : RequestId) → kept_at now id ≡ order_after (kept_at table) b id) → Holds now (with_step Role.Order steps from b)
+  keeps now each =
+      let parts = fits-parts Role.Order steps from b fit in
+      record {
+        each = λ id. each id ∙ (λ i. order_after (λ id. stands.held.each id i) b id)
+            ∙ sym (order_by-push steps (step_of Role.Order steps from b) stands.run parts.due parts.formed id);
+      }
+
+-- what is taken is well formed
+pub taken_formed : (table : List (RequestId × Order)) (from : Link) (b : Body) → CanTake Role.Order Holds table from b → body_formed b ≡ true
+taken_formed table from b can = ∥∥₁_elim can (Bool-set (body_formed b) true) (λ it. (fits-parts Role.Order it.0 from b it.2).formed)
+
+-- a body delivers lines that are open
+opens : (steps : List Step) (s : Step) (b : Body) → s.body ≡ b → IsRunOf Role.Order steps → order_fits steps b ≡ true → (id : RequestId) → item_count id (order_by steps id) (items_in b) ≤ open_in (order_by steps id)
+opens steps s (body.Delivered items) is run fit id = delivers_open steps items run fit id s is
+opens steps s other is run fit id = omega (arith, item_count-nil id (order_by steps id))
+
+pub taken_open : (table : List (RequestId × Order)) (from : Link) (b : Body) → CanTake Role.Order Holds table from b → (id : RequestId) → item_count id (kept_at table id) (items_in b) ≤ open_in (kept_at table id)
+taken_open table from b can id = ∥∥₁_elim can le_prop (λ it.
+    subst (λ o. item_count id o (items_in b) ≤ open_in o) (sym (it.1.held.each id))
+    (opens it.0 (step_of Role.Order it.0 from b) b refl it.1.run (fits-parts Role.Order it.0 from b it.2).due id))

@@ -13,13 +13,13 @@ use Rattle.market_events.specs.declared.replies.OrderStatus.TheVariants as statu
 use Rattle.market_events.specs.Formed.{lines_formed}
 use Rattle.market_events.specs.Requests.{same_id}
 use Rattle.market_events.specs.WellFormed.{total_of, total_max}
-use Rattle.market_events.proofs.ListLaws.{and_both, and_from, any_weaker, count-none, false_from}
-use Rattle.market_events.proofs.OrderRuns.{is_item_for}
-use Rattle.market_events.proofs.SameLaws.{same_id-self}
-use Rattle.market_events.proofs.TotalLaws.{lines_formed-total}
-use Rattle.market_events.proofs.Totals.{total_of-step}
-use Rattle.order_service.specs.declared.order.Order.{Order}
-use Rattle.order_service.specs.Kept.{open_in, customer_in, with_delivered, with_item, is_own, item_count}
+use Rattle.market_events.proofs.Values.Lists.{and_both, and_from, any_weaker, count-none, false_from}
+use Rattle.market_events.proofs.Runs.Orders.{is_item_for}
+use Rattle.market_events.proofs.Values.Same.{same_id-self}
+use Rattle.market_events.proofs.Runs.Totals.{lines_formed-total}
+use Rattle.market_events.proofs.Values.Totals.{total_of-step}
+use Rattle.order_service.specs.declared.tables.Order.{Order}
+use Rattle.order_service.specs.Tables.{open_in, customer_in, with_delivered, with_item, is_own, item_count}
 
 -- the total of lines put together
 total_of-append : (a b : List PricedLine) → total_of (a ++ b) ≡ total_of a + total_of b

@@ -1,13 +1,11 @@
-//! Orders: how far each checkout is whose pieces stock reserved, what it costs, and how many of its lines were not
-//! delivered yet. Orders invoice a checkout, and tell the cart how it ended.
+//! The orders as a service. It keeps how far each checkout is whose pieces stock reserved, what it costs, and
+//! how many of its lines were not delivered yet. It invoices a checkout, and tells the cart how it ended.
 #![tactic(auto)]
 
-mod answering;
-mod invoicing;
-mod names;
-mod order;
-mod orders;
-mod table;
+mod answers;
+mod cells;
+mod service;
+mod tables;
 
-pub use order::Order;
-pub use orders::Orders;
+pub use service::Orders;
+pub use tables::Order;

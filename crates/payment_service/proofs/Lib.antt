@@ -1,3 +1,4 @@
 pub mod Steps
-pub mod Tabling
-pub mod Told
+pub mod TableCells
+pub mod Values
+pub mod Touches

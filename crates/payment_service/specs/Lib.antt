@@ -1,2 +1,3 @@
-pub mod Accounts
-pub mod AccountCells
+pub mod Tables
+pub mod Holds
+pub mod Cells

@@ -4,13 +4,12 @@ ghost use Rattle.std.specs.Prelude.{◌≡◌, ℕ, ◌<◌, ◌^◌, Some, IfOk
 ghost use Rattle.market_events.specs.Cells.{cells_listed};
 ghost use Rattle.market_events.specs.CellLists.{Within, put_some, put_all, last_value};
 ghost use Rattle.market_events.specs.WellFormed.{IsId};
-ghost use Rattle.payment_service.specs.AccountCells.{name_by, text_by, cell_by, texts_in, table_cells};
+ghost use Rattle.payment_service.specs.Cells.{name_by, text_by, cell_by, texts_in, table_cells, customer_by};
 
-use crate::accounts::{Account, account_of};
+use crate::tables::{Account, Accounts};
 use market_amounts::List;
-use market_events::{Cell, CellList, CellName, number_name, number_named};
+use market_events::{Ask, Body, Cell, CellList, CellName, number_name, number_named};
 use std::alloc::{AllocError, Global};
-use std::collections::BTreeMap;
 
 const TABLE: &[u8] = b"account";
 
@@ -23,10 +22,25 @@ pub fn name_of(alloc: Global, customer: u32) -> Result<CellName, AllocError>
 
 // The customer whose cell has this name.
 fn customer_named(name: &CellName) -> Option<u32>
-    ensures is { IfSome result (λ customer. name.now ≡ name_by customer) }
-    ensures all { (customer : ℕ) → customer < 2 ^ 32 → name.now ≡ name_by customer → result ≡ Some customer }
+    ensures named { IfSome result (λ customer. name.now ≡ name_by customer) }
+    ensures found { (customer : ℕ) → customer < 2 ^ 32
+        → name.now ≡ name_by customer → result ≡ Some customer }
 {
     number_named(TABLE, name)
+}
+
+// The customer whose account a body may change.
+pub fn customer_of(body: &Body) -> Option<u32>
+    ensures { result ≡ customer_by body.now }
+{
+    match body {
+        Body::Asked(request) => match request.ask {
+            Ask::Card(customer, _) => Some(customer),
+            _ => None,
+        },
+        Body::Invoice(_, customer, _, _) => Some(*customer),
+        _ => None,
+    }
 }
 
 // The text of an account, none where there is none.
@@ -59,22 +73,18 @@ fn put(
 }
 
 // Puts the cells of all accounts.
-fn put_accounts(
-    alloc: Global,
-    accounts: &BTreeMap<u32, Account>,
-    cells: &mut CellList,
-) -> Result<(), AllocError>
-    ensures { OnOk result (cells.new ≡ put_all cells.old (table_cells accounts.now.entries)) }
+fn put_accounts(alloc: Global, accounts: &Accounts, cells: &mut CellList) -> Result<(), AllocError>
+    ensures { OnOk result (cells.new ≡ put_all cells.old (table_cells accounts.now)) }
 {
-    for customer in accounts.keys() {
-        put(alloc, cells, *customer, account_of(accounts, *customer))?;
+    for customer in accounts.customers() {
+        put(alloc, cells, *customer, accounts.get(*customer))?;
     }
     Ok(())
 }
 
 // The cells of all accounts, by rising name.
-pub fn cells_of(alloc: Global, accounts: &BTreeMap<u32, Account>) -> Result<Vec<Cell>, AllocError>
-    ensures { IfOk result (λ cells. cells.items ≡ cells_listed (table_cells accounts.now.entries)) }
+pub fn cells_of(alloc: Global, accounts: &Accounts) -> Result<Vec<Cell>, AllocError>
+    ensures { IfOk result (λ cells. cells.items ≡ cells_listed (table_cells accounts.now)) }
 {
     let mut cells = CellList::new(alloc);
     put_accounts(alloc, accounts, &mut cells)?;
@@ -84,13 +94,14 @@ pub fn cells_of(alloc: Global, accounts: &BTreeMap<u32, Account>) -> Result<Vec<
 // The value at a name, none where it is the name of no cell.
 pub fn value_named(
     alloc: Global,
-    accounts: &BTreeMap<u32, Account>,
+    accounts: &Accounts,
     name: &CellName,
 ) -> Result<Option<List<u8>>, AllocError>
-    ensures { IfOk result (λ value. Within IsId (texts_in accounts.now.entries) → value ≡ last_value name.now (table_cells accounts.now.entries)) }
+    ensures { IfOk result (λ value. Within IsId (texts_in accounts.now)
+        → value ≡ last_value name.now (table_cells accounts.now)) }
 {
     let Some(customer) = customer_named(name) else {
         return Ok(None);
     };
-    text_of(alloc, account_of(accounts, customer))
+    text_of(alloc, accounts.get(customer))
 }

@@ -1,11 +1,12 @@
-//! The payment service. It keeps each customer's card limit and what the customer spent, and says of each invoice whether
-//! it is paid: where the customer has a card whose limit holds it beside what was spent before.
+//! The payments as a service. It keeps the limit of each customer's card and what the customer spent, and
+//! says of each invoice whether it is paid: where the customer has a card whose limit holds it beside what
+//! was spent before.
 #![tactic(auto)]
 
-mod accounts;
-mod billing;
+mod answers;
 mod cells;
-mod payments;
+mod service;
+mod tables;
 
-pub use accounts::Account;
-pub use payments::Payments;
+pub use service::Payments;
+pub use tables::Account;

@@ -16,17 +16,17 @@ use Rattle.market_events.specs.Cells.{look_cells}
 use Rattle.market_events.specs.Copies.{ProductChange, last_some}
 use Rattle.market_events.specs.Formed.{cents_formed, key_formed, request_id_formed, ask_formed, body_formed}
 use Rattle.market_events.specs.Products.{ProductSums, changes_made, product_sums, product_rows}
-use Rattle.market_events.specs.Services.{Role, Follows, IsRunOf}
+use Rattle.market_events.specs.declared.roles.Role.{Role}
+use Rattle.market_events.specs.Services.{Follows, IsRunOf}
 use Rattle.market_events.specs.Standing.{with_step, same_name}
 use Rattle.market_events.specs.Steps.{Step}
-use Rattle.market_events.proofs.CellLaws.{value_at}
-use Rattle.market_events.proofs.ListLaws.{and_both}
-use Rattle.market_events.proofs.ProductLaws.{answers-product}
-use Rattle.market_events.proofs.StepLaws.{changes_made-push, fits-parts, run_has}
+use Rattle.market_events.proofs.NamedCells.Named.{value_at}
+use Rattle.market_events.proofs.Values.Lists.{and_both}
+use Rattle.market_events.proofs.Steps.Products.{answers-product}
+use Rattle.market_events.proofs.Steps.Taken.{changes_made-push, fits-parts, run_has}
 use Rattle.cart_replica.specs.CopyCells.{AreKeysFormed}
 use Rattle.cart_replica.proofs.CopyCells.{AreKeysFormed-push, look_cells-push}
-use Rattle.product_service.specs.Changing.{change_by, key_wanted, refusal_by, rows_unless}
-use Rattle.product_service.specs.Products.{changes_told}
+use Rattle.product_service.specs.Changing.{key_wanted, refusal_by, rows_unless, changes_told, change_wanted}
 use Rattle.product_service.proofs.Steps.{changes_made-step}
 use Rattle.product_service.proofs.Rows.{rows_by, product_asked-by}
 
@@ -50,7 +50,7 @@ told_one s id (Some w) = by (refusal_by (s.look w.0) w.1)
 pub tells : (s : ProductSums) (b : Body) → (changes_told (product_rows s b) ≡ []) ⊎ TellsOne (key_wanted b) (changes_told (product_rows s b))
 tells s (body.Asked request) =
     subst (λ made. (changes_told made ≡ []) ⊎ TellsOne (key_wanted (body.Asked request)) (changes_told made)) (sym (product_asked-by s request.id request.ask))
-    (told_one s request.id (change_by request.ask))
+    (told_one s request.id (change_wanted request.ask))
 tells s other = inl refl
 
 -- the product that a well-formed body asks to change is well formed
@@ -60,7 +60,7 @@ wanted_formed (body.Asked request) formed key is = asked request.ask (and_both (
     same : (k : ProductKey) → key_formed k ≡ true → Some k ≡ Some key → key_formed key ≡ true
     same k formed e = let one : k ≡ key = cc in subst (λ k. key_formed k ≡ true) one formed
 
-    asked : (a : Ask) → ask_formed a ≡ true → option_map (λ (w : ProductKey × Change). w.0) (change_by a) ≡ Some key → key_formed key ≡ true
+    asked : (a : Ask) → ask_formed a ≡ true → option_map (λ (w : ProductKey × Change). w.0) (change_wanted a) ≡ Some key → key_formed key ≡ true
     asked (ask.Create k price freight) formed is = same k (and_both (key_formed k) (cents_formed price) (and_both (key_formed k && cents_formed price) (cents_formed freight) formed).0).0 is
     asked (ask.Price k price) formed is = same k (and_both (key_formed k) (cents_formed price) formed).0 is
     asked (ask.Delete k) formed is = same k formed is

@@ -1,5 +1,6 @@
 pub mod Rows
 pub mod Steps
 pub mod Changes
-pub mod Told
-pub mod Requests
+pub mod TableCells
+pub mod Touches
+pub mod Values

@@ -1,5 +1,5 @@
 -- What a request makes, by the change that it asks for.
-use Rattle.std.proofs.Common.{◌≡◌, List, [], Option, Some, None, Result, Ok, Err, OnOk, refl, ap, ap₂, sym, ◌∙◌}
+use Rattle.std.proofs.Common.{◌≡◌, List, [], Option, Some, None, refl, ap, ap₂, sym, ◌∙◌}
 use Rattle.market_amounts.specs.declared.keys.ProductKey.{ProductKey}
 use Rattle.market_amounts.specs.declared.keys.RequestId.{RequestId}
 use Rattle.market_events.specs.declared.bodies.Body.{Body}
@@ -13,7 +13,7 @@ use Rattle.market_events.specs.declared.requests.Ask.TheVariants as ask
 use Rattle.market_events.specs.declared.requests.Request.{Request}
 use Rattle.market_events.specs.Products.{ProductSums, create_rows, price_rows, delete_rows, product_asked, product_rows}
 use Rattle.market_events.specs.Steps.{Sending}
-use Rattle.product_service.specs.Changing.{change_by, refusal_by, rows_unless, rows_of}
+use Rattle.product_service.specs.Changing.{refusal_by, rows_unless, rows_of, change_wanted}
 
 -- what a request makes that asks for this change, or for none
 abbrev pub rows_by : ProductSums → RequestId → Option (ProductKey × Change) → List Sending
@@ -21,7 +21,7 @@ rows_by s id None = []
 rows_by s id (Some wanted) = rows_of s id wanted.0 wanted.1
 
 -- a request makes what the change that it asks for does
-pub product_asked-by : (s : ProductSums) (id : RequestId) (a : Ask) → product_asked s id a ≡ rows_by s id (change_by a)
+pub product_asked-by : (s : ProductSums) (id : RequestId) (a : Ask) → product_asked s id a ≡ rows_by s id (change_wanted a)
 product_asked-by s id (ask.Create key price freight) = by_look (s.look key)
   where
     by_look : (look : Look) → create_rows id key (change.Created price freight) look (s.version key)
@@ -44,15 +44,10 @@ product_asked-by s id (ask.Delete key) = by_look (s.look key)
 product_asked-by s id other = refl
 
 -- what a body makes that asks for this change
-pub rows_wanted : (s : ProductSums) (b : Body) (request : Request) → b ≡ body.Asked request → (key : ProductKey) (c : Change) → Some (key, c) ≡ change_by request.ask
+pub rows_wanted : (s : ProductSums) (b : Body) (request : Request) → b ≡ body.Asked request → (key : ProductKey) (c : Change) → Some (key, c) ≡ change_wanted request.ask
     → rows_of s request.id key c ≡ product_rows s b
 rows_wanted s b request is key c wanted =
     ap (rows_by s request.id) wanted ∙ sym (ap (product_rows s) is ∙ product_asked-by s request.id request.ask)
-
--- what follows of success follows of it
-pub on_ok : {T E P Q : Type 0} (r : Result T E) → (P → Q) → OnOk r P → OnOk r Q
-on_ok (Ok x) f p = f p
-on_ok (Err e) f p = tt
 
 -- sums that show the same make the same
 pub product_rows-same : (s t : ProductSums) → ((key : ProductKey) → s.look key ≡ t.look key) → ((key : ProductKey) → s.version key ≡ t.version key)

@@ -1,2 +1,4 @@
+pub mod Holds
+pub mod Tables
 pub mod Changing
-pub mod Products
+pub mod Cells

@@ -2,14 +2,14 @@
 
 ghost use Rattle.std.specs.Prelude.{◌≡◌};
 ghost use Rattle.market_events.specs.Looks.{look_version};
-ghost use Rattle.product_service.specs.Changing.{change_by, key_wanted, refusal_by, reply_by};
+ghost use Rattle.product_service.specs.Changing.{key_wanted, refusal_by, reply_by, change_wanted};
 
 use market_amounts::ProductKey;
 use market_events::{Ask, Body, Change, Look, Reply, Rule};
 
 // The product that a request asks to change, and the change.
 pub fn change_asked(ask: &Ask) -> Option<(ProductKey, Change)>
-    ensures { result ≡ change_by ask.now }
+    ensures { result ≡ change_wanted ask.now }
 {
     match ask {
         Ask::Create(key, price, freight) => Some((*key, Change::Created(*price, *freight))),

@@ -1,8 +1,11 @@
-//! The product service. It creates, prices and deletes products, each change of a product making its next version, and
-//! tells stock and the cart of each change. What it keeps is the copy of its own changes.
+//! The product service. It creates, prices and deletes products, each change of a product making its next
+//! version, and tells stock and the cart of each change. What it keeps is the copy of its own changes. To be
+//! read in this order: `service`, `answers` with `changing`, `cells`.
 #![tactic(auto)]
 
+mod answers;
+mod cells;
 mod changing;
-mod products;
+mod service;
 
-pub use products::Products;
+pub use service::Products;

@@ -15,13 +15,14 @@ use Rattle.market_events.specs.declared.replies.OrderStatus.TheVariants as statu
 use Rattle.market_events.specs.Cells.{sellers_in, entry_number}
 use Rattle.market_events.specs.Requests.{same_id, same_key}
 use Rattle.market_events.specs.Sellers.{SellerChange, lines_invoiced, invoice_lines, marked, lines_with_keys, item_delivered, changes_by, changes_after, seller_changes, entries_at, same_entry}
-use Rattle.market_events.specs.Services.{Role, IsRunOf}
+use Rattle.market_events.specs.declared.roles.Role.{Role}
+use Rattle.market_events.specs.Services.{IsRunOf}
 use Rattle.market_events.specs.Steps.{Step, taken_bodies}
-use Rattle.market_events.proofs.ListLaws.{and_from, and_both, or_left, or_right, flat_map-push}
-use Rattle.market_events.proofs.SameLaws.{same_id-self, same_id-true, same_key-self}
-use Rattle.market_events.proofs.SellerLaws.{lines_of_seller, entries_at-append, entries_at-marked, seller_changes-push, invoice_lines-push}
-use Rattle.market_events.proofs.SellerSteps.{is_sellers}
-use Rattle.market_events.proofs.StepLaws.{run_has}
+use Rattle.market_events.proofs.Values.Lists.{and_from, and_both, or_left, or_right, flat_map-push}
+use Rattle.market_events.proofs.Values.Same.{same_id-self, same_id-true, same_key-self}
+use Rattle.market_events.proofs.Steps.SellerChanges.{lines_of_seller, entries_at-append, entries_at-marked, seller_changes-push, invoice_lines-push}
+use Rattle.market_events.proofs.Steps.SellerEntries.{is_sellers}
+use Rattle.market_events.proofs.Steps.Taken.{run_has}
 
 -- whether the line is of the seller
 abbrev pub is_line_of_seller : ℕ → PricedLine → Bool

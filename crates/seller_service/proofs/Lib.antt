@@ -1,10 +1,11 @@
 pub mod Lists
-pub mod Showing
-pub mod Bringing
-pub mod Joining
+pub mod Dashboards
+pub mod Changes
+pub mod Steps
 pub mod Places
 pub mod Numbers
-pub mod Putting
+pub mod Puts
 pub mod Entered
-pub mod SellerCells
-pub mod Touching
+pub mod TableCells
+pub mod Values
+pub mod Touches

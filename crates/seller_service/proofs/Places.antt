@@ -13,12 +13,12 @@ use Rattle.market_events.specs.Formed.{key_formed}
 use Rattle.market_events.specs.Cells.{with_value, entry_text, entry_number}
 use Rattle.market_events.specs.Sellers.{SellerChange, entries_at, line_cost}
 use Rattle.market_events.specs.Texts.{id_text, status_text}
-use Rattle.market_events.proofs.FormedLaws.{key_decides}
-use Rattle.market_events.proofs.KeyedCells.{IsNaming, HasAll, IsFilled, is_among, key_naming, said_at, joined_filled}
-use Rattle.market_events.proofs.ListLaws.{and_from}
+use Rattle.market_events.proofs.Values.Formed.{key_decides}
+use Rattle.market_events.proofs.NamedCells.Keyed.{IsNaming, HasAll, IsFilled, is_among, key_naming, said_at, joined_filled}
+use Rattle.market_events.proofs.Values.Lists.{and_from}
 use Rattle.seller_service.specs.declared.cells.Place.{Place}
 use Rattle.seller_service.specs.declared.cells.Place.TheVariants as place
-use Rattle.seller_service.specs.Cells.{numbered, place_name, IsPlace, at_number, change_text, text_at, cells_of_seller}
+use Rattle.seller_service.specs.Cells.{numbered, place_name, at_number, change_text, text_at, cells_of_seller, IsSpelledPlace}
 
 -- the seller of a place, and its number
 abbrev pub seller_of : Place → ℕ
@@ -49,7 +49,7 @@ apart e = five (ap (length {A = ℕ}) e)
     five : ◌≡◌ {A = ℕ} 5 6 → ⊥
     five same = omega (arith, same)
 
-place_exact : (p q : Place) → IsPlace p → IsPlace q → place_name p ≡ place_name q → p ≡ q
+place_exact : (p q : Place) → IsSpelledPlace p → IsSpelledPlace q → place_name p ≡ place_name q → p ≡ q
 place_exact (place.Entry s n) (place.Entry t m) small tiny e =
     ap (λ (k : ProductKey). place.Entry k.seller k.product) ((key_naming (codes "entry")).exact (numbered s n) (numbered t m) small tiny e)
 place_exact (place.Change s n) (place.Change t m) small tiny e =
@@ -57,7 +57,7 @@ place_exact (place.Change s n) (place.Change t m) small tiny e =
 place_exact (place.Entry s n) (place.Change t m) small tiny e = absurd (apart (ap (λ (n : CellName). n.table) e))
 place_exact (place.Change s n) (place.Entry t m) small tiny e = absurd (apart (sym (ap (λ (n : CellName). n.table) e)))
 
-pub naming : IsNaming same_place place_name IsPlace
+pub naming : IsNaming same_place place_name IsSpelledPlace
 naming = record { is = same_place-true; itself = same_place-self; exact = place_exact }
 
 -- the element with a number that is not 0
@@ -193,13 +193,13 @@ text_filled changes (place.Change s n) = by (at_number (changes s) n)
 
 -- a name that no key in either table has
 pub unplaced : (name : CellName) → ((key : ProductKey) → key_formed key ≡ true → name ≡ key_name (codes "entry") key → ⊥) → ((key : ProductKey) → key_formed key ≡ true → name ≡ key_name (codes "change") key → ⊥)
-    → (p : Place) → IsPlace p → name ≡ place_name p → ⊥
+    → (p : Place) → IsSpelledPlace p → name ≡ place_name p → ⊥
 unplaced name entry change (place.Entry s n) small is = entry (numbered s n) ((key_decides (numbered s n)).1 small) is
 unplaced name entry change (place.Change s n) small is = change (numbered s n) ((key_decides (numbered s n)).1 small) is
 
 -- the place of a name is the one that was found
-pub placed_entry : (name : CellName) (key : ProductKey) → key_formed key ≡ true → name ≡ key_name (codes "entry") key → (p : Place) → IsPlace p → name ≡ place_name p → place.Entry key.seller key.product ≡ p
+pub placed_entry : (name : CellName) (key : ProductKey) → key_formed key ≡ true → name ≡ key_name (codes "entry") key → (p : Place) → IsSpelledPlace p → name ≡ place_name p → place.Entry key.seller key.product ≡ p
 placed_entry name key formed found p small is = place_exact (place.Entry key.seller key.product) p ((key_decides key).0 formed) small (sym found ∙ is)
 
-pub placed_change : (name : CellName) (key : ProductKey) → key_formed key ≡ true → name ≡ key_name (codes "change") key → (p : Place) → IsPlace p → name ≡ place_name p → place.Change key.seller key.product ≡ p
+pub placed_change : (name : CellName) (key : ProductKey) → key_formed key ≡ true → name ≡ key_name (codes "change") key → (p : Place) → IsSpelledPlace p → name ≡ place_name p → place.Change key.seller key.product ≡ p
 placed_change name key formed found p small is = place_exact (place.Change key.seller key.product) p ((key_decides key).0 formed) small (sym found ∙ is)

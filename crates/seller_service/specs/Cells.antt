@@ -14,7 +14,7 @@ use Rattle.market_events.specs.Texts.{spaced, status_text}
 use Rattle.market_events.specs.WellFormed.{IsKey}
 use Rattle.seller_service.specs.declared.cells.Place.{Place}
 use Rattle.seller_service.specs.declared.cells.Place.TheVariants as place
-use Rattle.seller_service.specs.Kept.{changes_at}
+use Rattle.seller_service.specs.Tables.{changes_at}
 
 -- a seller and a number, which are spelled as a product's key is
 abbrev pub numbered : ℕ → ℕ → ProductKey
@@ -25,9 +25,9 @@ place_name (place.Entry seller number) = key_name (codes "entry") (numbered sell
 place_name (place.Change seller number) = key_name (codes "change") (numbered seller number)
 
 -- the numbers can be spelled
-abbrev pub IsPlace : Place → Type 0
-IsPlace (place.Entry seller number) = IsKey (numbered seller number)
-IsPlace (place.Change seller number) = IsKey (numbered seller number)
+abbrev pub IsSpelledPlace : Place → Type 0
+IsSpelledPlace (place.Entry seller number) = IsKey (numbered seller number)
+IsSpelledPlace (place.Change seller number) = IsKey (numbered seller number)
 
 -- the element with this number, from 1
 abbrev pub at_number : {A : Type 0} → List A → ℕ → Option A
@@ -40,17 +40,21 @@ change_text entries change = spaced (decimal (entry_number entries change) ∷ s
 
 -- the text of a place
 abbrev pub text_at : (ℕ → List SellerChange) → Place → Option (List ℕ)
-text_at changes (place.Entry seller number) = option_map entry_text (at_number (entries_at (changes seller)) number)
-text_at changes (place.Change seller number) = option_map (change_text (entries_at (changes seller))) (at_number (changes seller) number)
+text_at changes (place.Entry seller number) =
+    option_map entry_text (at_number (entries_at (changes seller)) number)
+text_at changes (place.Change seller number) =
+    option_map (change_text (entries_at (changes seller))) (at_number (changes seller) number)
 
 -- the cells of a seller's entries, and of changes by these entries
 abbrev pub cells_of_entries : ℕ → List SellerChange → List Cell
 cells_of_entries seller entries =
-    map (λ (p : ℕ × SellerChange). cell (codes "entry") (seller_key seller p.0) (entry_text p.1)) (enumerate_from 1 entries)
+    map (λ (p : ℕ × SellerChange). cell (codes "entry") (seller_key seller p.0) (entry_text p.1))
+    (enumerate_from 1 entries)
 
 abbrev pub cells_of_changes : ℕ → List SellerChange → List SellerChange → List Cell
 cells_of_changes seller entries changes =
-    map (λ (p : ℕ × SellerChange). cell (codes "change") (seller_key seller p.0) (change_text entries p.1)) (enumerate_from 1 changes)
+    map (λ (p : ℕ × SellerChange). cell (codes "change") (seller_key seller p.0) (change_text entries p.1))
+    (enumerate_from 1 changes)
 
 -- the cells of a seller with these changes
 abbrev pub cells_of_seller : ℕ → List SellerChange → List Cell

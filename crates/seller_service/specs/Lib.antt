@@ -1,3 +1,4 @@
-pub mod Entries
-pub mod Kept
+pub mod Tables
+pub mod Holds
+pub mod Dashboards
 pub mod Cells

@@ -1,29 +1,13 @@
-//! The changes that an event brings, and the lines of the invoices that they are of.
+//! The changes that an event brings, by the lines of the invoices.
 
-ghost use Rattle.std.specs.Prelude.{◌≡◌, map, filter_map, find, unwrap_or, if◌then◌else◌, IfOk, OnOk, OnErr, [], Option};
-ghost use Rattle.market_amounts.specs.declared.keys.RequestId.{RequestId};
-ghost use Rattle.market_events.specs.declared.bodies.PricedLine.{PricedLine as Line};
-ghost use Rattle.market_events.specs.Requests.{same_key};
-ghost use Rattle.seller_service.specs.Kept.{lines_at, lines_after, all_marked, delivered_by, brought_by};
+ghost use Rattle.std.specs.Prelude.{◌≡◌, filter_map, IfOk};
+ghost use Rattle.seller_service.specs.Tables.{lines_at, all_marked, delivered_by, brought_by};
 
 use crate::change::Change;
-use market_amounts::{CheckoutId, List};
+use crate::tables::Invoices;
+use market_amounts::CheckoutId;
 use market_events::{Body, Item, OrderStatus, PricedLine};
 use std::alloc::{AllocError, Global};
-use std::collections::BTreeMap;
-
-// The lines of a checkout's invoice, none where it has none.
-fn lines_of(
-    invoices: &BTreeMap<CheckoutId, List<PricedLine>>,
-    checkout: CheckoutId,
-) -> &[PricedLine]
-    ensures { result.now ≡ lines_at invoices.now.entries checkout }
-{
-    match invoices.get(&checkout) {
-        Some(lines) => lines.as_slice(),
-        None => &[],
-    }
-}
 
 // The lines of a checkout, each with this status.
 fn marked(
@@ -46,10 +30,10 @@ fn marked(
 }
 
 // The line of an item, delivered, where the invoice of its checkout has one.
-fn delivered_line(invoices: &BTreeMap<CheckoutId, List<PricedLine>>, item: &Item) -> Option<Change>
-    ensures { result ≡ delivered_by (lines_at invoices.now.entries) item.now }
+fn delivered_line(invoices: &Invoices, item: &Item) -> Option<Change>
+    ensures { result ≡ delivered_by (lines_at invoices.now) item.now }
 {
-    let lines = lines_of(invoices, item.checkout);
+    let lines = invoices.lines(item.checkout);
     let line = lines.iter().find(|line| line.key == item.key)?;
     Some(Change {
         checkout: item.checkout,
@@ -59,12 +43,9 @@ fn delivered_line(invoices: &BTreeMap<CheckoutId, List<PricedLine>>, item: &Item
 }
 
 // The lines of the items, delivered.
-fn delivered(
-    alloc: Global,
-    invoices: &BTreeMap<CheckoutId, List<PricedLine>>,
-    items: &[Item],
-) -> Result<Vec<Change>, AllocError>
-    ensures { IfOk result (λ changes. changes.items ≡ filter_map (delivered_by (lines_at invoices.now.entries)) items.now) }
+fn delivered(alloc: Global, invoices: &Invoices, items: &[Item]) -> Result<Vec<Change>, AllocError>
+    ensures { IfOk result (λ changes.
+        changes.items ≡ filter_map (delivered_by (lines_at invoices.now)) items.now) }
 {
     let mut changes = Vec::new(alloc);
     for item in items {
@@ -76,46 +57,26 @@ fn delivered(
 }
 
 /// The changes that a body brings, in the order of its lines or items.
-pub fn brought(
-    alloc: Global,
-    invoices: &BTreeMap<CheckoutId, List<PricedLine>>,
-    body: &Body,
-) -> Result<Vec<Change>, AllocError>
-    ensures { IfOk result (λ changes. changes.items ≡ brought_by (lines_at invoices.now.entries) body.now) }
+pub fn brought(alloc: Global, invoices: &Invoices, body: &Body) -> Result<Vec<Change>, AllocError>
+    ensures { IfOk result (λ changes. changes.items ≡ brought_by (lines_at invoices.now) body.now) }
 {
     match body {
         Body::Invoice(checkout, _, lines, _) => {
             marked(alloc, *checkout, OrderStatus::Invoiced, lines.as_slice())
         }
         Body::Confirmed(checkout, ..) => {
-            let lines = lines_of(invoices, *checkout);
+            let lines = invoices.lines(*checkout);
             marked(alloc, *checkout, OrderStatus::Paid, lines)
         }
         Body::Failed(checkout, ..) => {
-            let lines = lines_of(invoices, *checkout);
+            let lines = invoices.lines(*checkout);
             marked(alloc, *checkout, OrderStatus::Cancelled, lines)
         }
         Body::Shipped(checkout) => {
-            let lines = lines_of(invoices, *checkout);
+            let lines = invoices.lines(*checkout);
             marked(alloc, *checkout, OrderStatus::Shipped, lines)
         }
         Body::Delivered(items) => delivered(alloc, invoices, items.as_slice()),
         _ => Ok(Vec::new(alloc)),
     }
-}
-
-/// Keeps the lines of an invoice. On want of memory they are not kept.
-pub fn keep_invoice(
-    invoices: &mut BTreeMap<CheckoutId, List<PricedLine>>,
-    body: &Body,
-) -> Result<(), AllocError>
-    ensures ok { OnOk result ((id : RequestId) → lines_at invoices.new.entries id ≡ lines_after (lines_at invoices.old.entries) body.now id) }
-    ensures err { OnErr result (invoices.new.entries ≡ invoices.old.entries) }
-{
-    let Body::Invoice(checkout, _, lines, _) = body else {
-        return Ok(());
-    };
-    let lines = lines.try_copy()?;
-    invoices.insert(*checkout, lines)?;
-    Ok(())
 }

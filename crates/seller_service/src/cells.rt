@@ -1,6 +1,7 @@
 //! Names and values of the sellers' cells.
 
-ghost use Rattle.std.specs.Prelude.{◌≡◌, ℕ, ◌+◌, ◌≤◌, ◌<◌, ◌^◌, ◌⊎◌, true, codes, [], length, map, count_by, Some, option_map, IfOk, OnOk, IfSome};
+ghost use Rattle.std.specs.Prelude.{◌≡◌, ℕ, ◌+◌, ◌≤◌, ◌<◌, ◌^◌, ◌⊎◌, true, codes, length, count_by};
+ghost use Rattle.std.specs.Prelude.{IfOk, OnOk, IfSome};
 ghost use Rattle.std.specs.Option.{option_copied};
 ghost use Rattle.market_events.specs.declared.cells.CellName.{CellName as Name};
 ghost use Rattle.market_events.specs.Cells.{cells_listed, entry_number, entry_text};
@@ -8,17 +9,16 @@ ghost use Rattle.market_events.specs.CellLists.{Within, put_all, last_value};
 ghost use Rattle.market_events.specs.Sellers.{entries_at, line_cost};
 ghost use Rattle.market_events.specs.Standing.{is_named};
 ghost use Rattle.market_events.specs.Texts.{status_text};
-ghost use Rattle.seller_service.specs.Cells.{IsPlace, place_name, change_text, at_number, text_at, cells_of_entries, cells_of_changes, cells_of_seller, table_cells};
-ghost use Rattle.seller_service.specs.Kept.{changes_at, is_of_seller};
+ghost use Rattle.seller_service.specs.Cells.{place_name, change_text, at_number, text_at, IsSpelledPlace};
+ghost use Rattle.seller_service.specs.Cells.{cells_of_entries, cells_of_changes, cells_of_seller};
+ghost use Rattle.seller_service.specs.Cells.{table_cells};
+ghost use Rattle.seller_service.specs.Tables.{changes_at, is_of_seller};
 
-use crate::change::Change;
-use crate::dashboard::{id_of, is_new};
-use crate::ledger::Ledger;
-use crate::ledgers::changes_of;
+use crate::change::{Change, id_of, is_new};
+use crate::tables::Ledgers;
 use market_amounts::{List, ProductKey, line_amount};
 use market_events::{Cell, CellList, CellName, NameList, OrderStatus, key_name, key_named};
 use std::alloc::{AllocError, Global};
-use std::collections::BTreeMap;
 
 const ENTRY: &[u8] = b"entry";
 
@@ -43,9 +43,10 @@ fn name_of(alloc: Global, place: Place) -> Result<CellName, AllocError>
 
 // The place whose cell has the name.
 fn place_named(name: &CellName) -> Option<Place>
-    ensures is { IfSome result (λ place. name.now ≡ place_name place) }
-    ensures formed { IfSome result (λ place. IsPlace place) }
-    ensures all { (place : Place) → IsPlace place → name.now ≡ place_name place → result ≡ Some place }
+    ensures named { IfSome result (λ place. name.now ≡ place_name place) }
+    ensures formed { IfSome result (λ place. IsSpelledPlace place) }
+    ensures found { (place : Place) → IsSpelledPlace place → name.now ≡ place_name place
+        → result ≡ Some place }
 {
     if let Some(key) = key_named(ENTRY, name) {
         return Some(Place::Entry(key.seller, key.product));
@@ -136,23 +137,19 @@ fn numbered(changes: &[Change], number: u32) -> Option<&Change>
 }
 
 // The text of a place, none where there is none.
-fn text_of(
-    alloc: Global,
-    ledgers: &BTreeMap<u32, Ledger>,
-    place: Place,
-) -> Result<Option<List<u8>>, AllocError>
-    ensures { IfOk result (λ text. text ≡ text_at (changes_at ledgers.now.entries) place) }
+fn text_of(alloc: Global, ledgers: &Ledgers, place: Place) -> Result<Option<List<u8>>, AllocError>
+    ensures { IfOk result (λ text. text ≡ text_at (changes_at ledgers.now) place) }
 {
     match place {
         Place::Entry(seller, number) => {
-            let entries = entries_of(alloc, changes_of(ledgers, seller))?;
+            let entries = entries_of(alloc, ledgers.changes(seller))?;
             match numbered(entries.as_slice(), number) {
                 Some(entry) => Ok(Some(text_of_entry(alloc, entry)?)),
                 None => Ok(None),
             }
         }
         Place::Change(seller, number) => {
-            let changes = changes_of(ledgers, seller);
+            let changes = ledgers.changes(seller);
             let entries = entries_of(alloc, changes)?;
             match numbered(changes, number) {
                 Some(change) => Ok(Some(text_of_change(alloc, entries.as_slice(), change)?)),
@@ -213,24 +210,20 @@ fn put_seller(
 }
 
 // Puts the cells of all sellers.
-fn put_sellers(
-    alloc: Global,
-    ledgers: &BTreeMap<u32, Ledger>,
-    cells: &mut CellList,
-) -> Result<(), AllocError>
-    requires { (seller : ℕ) → length (changes_at ledgers.now.entries seller) < 2 ^ 32 }
-    ensures { OnOk result (cells.new ≡ put_all cells.old (table_cells ledgers.now.entries)) }
+fn put_sellers(alloc: Global, ledgers: &Ledgers, cells: &mut CellList) -> Result<(), AllocError>
+    requires { (seller : ℕ) → length (changes_at ledgers.now seller) < 2 ^ 32 }
+    ensures { OnOk result (cells.new ≡ put_all cells.old (table_cells ledgers.now)) }
 {
-    for seller in ledgers.keys() {
-        put_seller(alloc, *seller, changes_of(ledgers, *seller), cells)?;
+    for seller in ledgers.sellers(alloc)? {
+        put_seller(alloc, seller, ledgers.changes(seller), cells)?;
     }
     Ok(())
 }
 
 /// The cells of all sellers, by rising name.
-pub fn cells_of(alloc: Global, ledgers: &BTreeMap<u32, Ledger>) -> Result<Vec<Cell>, AllocError>
-    requires { (seller : ℕ) → length (changes_at ledgers.now.entries seller) < 2 ^ 32 }
-    ensures { IfOk result (λ cells. cells.items ≡ cells_listed (table_cells ledgers.now.entries)) }
+pub fn cells_of(alloc: Global, ledgers: &Ledgers) -> Result<Vec<Cell>, AllocError>
+    requires { (seller : ℕ) → length (changes_at ledgers.now seller) < 2 ^ 32 }
+    ensures { IfOk result (λ cells. cells.items ≡ cells_listed (table_cells ledgers.now)) }
 {
     let mut cells = CellList::new(alloc);
     put_sellers(alloc, ledgers, &mut cells)?;
@@ -240,10 +233,11 @@ pub fn cells_of(alloc: Global, ledgers: &BTreeMap<u32, Ledger>) -> Result<Vec<Ce
 /// The value at a name, none where it is the name of no cell.
 pub fn value_named(
     alloc: Global,
-    ledgers: &BTreeMap<u32, Ledger>,
+    ledgers: &Ledgers,
     name: &CellName,
 ) -> Result<Option<List<u8>>, AllocError>
-    ensures { IfOk result (λ value. Within IsPlace (text_at (changes_at ledgers.now.entries)) → value ≡ last_value name.now (table_cells ledgers.now.entries)) }
+    ensures { IfOk result (λ value. Within IsSpelledPlace (text_at (changes_at ledgers.now))
+        → value ≡ last_value name.now (table_cells ledgers.now)) }
 {
     let Some(place) = place_named(name) else {
         return Ok(None);
@@ -267,22 +261,23 @@ fn count_of(changes: &[Change], seller: u32) -> usize
 /// Puts the names of the cells of changes that come to those of the ledgers.
 pub fn put_change_names(
     alloc: Global,
-    ledgers: &BTreeMap<u32, Ledger>,
+    ledgers: &Ledgers,
     changes: &[Change],
     names: &mut NameList,
 ) -> Result<(), AllocError>
-    requires { (seller : ℕ) → length (changes_at ledgers.now.entries seller) + length changes.now < 2 ^ 32 }
-    ensures named { OnOk result ((seller number : ℕ) → length (changes_at ledgers.now.entries seller) < number
-        → number ≤ length (changes_at ledgers.now.entries seller) + count_by (is_of_seller seller) changes.now
+    requires { (seller : ℕ) → length (changes_at ledgers.now seller) + length changes.now < 2 ^ 32 }
+    ensures named { OnOk result ((seller number : ℕ) → let before = length (changes_at ledgers.now seller) in
+        before < number → number ≤ before + count_by (is_of_seller seller) changes.now
         → is_named names.new (place_name (Place.Change seller number)) ≡ true) }
     ensures tables { OnOk result ((name : Name) → is_named names.new name ≡ true
         → (is_named names.old name ≡ true) ⊎ (name.table ≡ codes "change")) }
-    ensures stay { OnOk result ((name : Name) → is_named names.old name ≡ true → is_named names.new name ≡ true) }
+    ensures stay { OnOk result ((name : Name) →
+        is_named names.old name ≡ true → is_named names.new name ≡ true) }
     ensures few { OnOk result (length names.new ≤ length names.old + length changes.now) }
 {
     for (index, change) in changes.iter().enumerate() {
         let seller = change.line.key.seller;
-        let before = changes_of(ledgers, seller).len() + count_of(&changes[..index], seller);
+        let before = ledgers.changes(seller).len() + count_of(&changes[..index], seller);
         names.put(name_of(alloc, Place::Change(seller, before as u32 + 1))?)?;
     }
     Ok(())
@@ -291,22 +286,24 @@ pub fn put_change_names(
 /// Puts the names of the cells of the entries that these changes add, each an entry that is new.
 pub fn put_entry_names(
     alloc: Global,
-    ledgers: &BTreeMap<u32, Ledger>,
+    ledgers: &Ledgers,
     changes: &[Change],
     names: &mut NameList,
 ) -> Result<(), AllocError>
-    requires { (seller : ℕ) → length (changes_at ledgers.now.entries seller) + length changes.now < 2 ^ 32 }
-    ensures named { OnOk result ((seller number : ℕ) → length (entries_at (changes_at ledgers.now.entries seller)) < number
-        → number ≤ length (entries_at (changes_at ledgers.now.entries seller)) + count_by (is_of_seller seller) changes.now
+    requires { (seller : ℕ) → length (changes_at ledgers.now seller) + length changes.now < 2 ^ 32 }
+    ensures named { OnOk result ((seller number : ℕ) →
+        let before = length (entries_at (changes_at ledgers.now seller)) in
+        before < number → number ≤ before + count_by (is_of_seller seller) changes.now
         → is_named names.new (place_name (Place.Entry seller number)) ≡ true) }
     ensures tables { OnOk result ((name : Name) → is_named names.new name ≡ true
         → (is_named names.old name ≡ true) ⊎ (name.table ≡ codes "entry")) }
-    ensures stay { OnOk result ((name : Name) → is_named names.old name ≡ true → is_named names.new name ≡ true) }
+    ensures stay { OnOk result ((name : Name) →
+        is_named names.old name ≡ true → is_named names.new name ≡ true) }
     ensures few { OnOk result (length names.new ≤ length names.old + length changes.now) }
 {
     for (index, change) in changes.iter().enumerate() {
         let seller = change.line.key.seller;
-        let entries = entry_count(changes_of(ledgers, seller));
+        let entries = entry_count(ledgers.changes(seller));
         let before = entries + count_of(&changes[..index], seller);
         names.put(name_of(alloc, Place::Entry(seller, before as u32 + 1))?)?;
     }

@@ -1,49 +1,18 @@
 //! Dashboards: the entries of a seller that are in progress.
 
-ghost use Rattle.std.specs.Prelude.{◌≡◌, ◌<◌, ◌^◌, if◌then◌else◌, None, length, IfOk, sum_by};
+ghost use Rattle.std.specs.Prelude.{◌≡◌, ◌<◌, ◌^◌, length, filter_map, IfOk, sum_by};
 ghost use Rattle.market_events.specs.declared.replies.EntryRow.{EntryRow as Row};
-ghost use Rattle.market_events.specs.Sellers.{SellerChange, adds, in_progress_at, row_by, status_at};
-ghost use Rattle.seller_service.specs.Entries.{id_at, status_in, shown_at, dashboard_at};
+ghost use Rattle.market_events.specs.Sellers.{in_progress_at, row_by};
+ghost use Rattle.seller_service.specs.Dashboards.{shown_at, dashboard_at, status_in_table};
 
-use crate::change::{Change, EntryId};
+use crate::change::{Change, is_new};
+use crate::statuses::Statuses;
 use market_amounts::{List, line_amount};
 use market_events::{EntryRow, OrderStatus, Reply};
 use std::alloc::{AllocError, Global};
-use std::collections::BTreeMap;
 
 // How many rows a dashboard shows at most.
 const MOST_ROWS: usize = 50;
-
-/// Which entry a change is of.
-pub fn id_of(change: &Change) -> EntryId
-    ensures { result ≡ id_at change.now }
-{
-    EntryId {
-        checkout: change.checkout,
-        product: change.line.key,
-    }
-}
-
-/// Whether an entry with this status is new.
-pub fn is_new(status: OrderStatus) -> bool
-    ensures { result ≡ adds status }
-{
-    matches!(status, OrderStatus::Invoiced)
-}
-
-// The last status of each entry.
-fn last_statuses(
-    alloc: Global,
-    changes: &[Change],
-) -> Result<BTreeMap<EntryId, OrderStatus>, AllocError>
-    ensures { IfOk result (λ statuses. (entry : SellerChange) → status_in statuses.entries (id_at entry) ≡ status_at changes.now entry) }
-{
-    let mut statuses = BTreeMap::new(alloc);
-    for change in changes {
-        statuses.insert(id_of(change), change.status)?;
-    }
-    Ok(statuses)
-}
 
 // The row of an entry whose last status is this, where it is in progress.
 fn row_of(entry: &Change, status: Option<OrderStatus>) -> Option<EntryRow>
@@ -65,27 +34,39 @@ fn row_of(entry: &Change, status: Option<OrderStatus>) -> Option<EntryRow>
 }
 
 // The row of the entry that a change adds, where it adds one that is in progress.
-fn shown(statuses: &BTreeMap<EntryId, OrderStatus>, change: &Change) -> Option<EntryRow>
-    ensures { result ≡ shown_at (status_in statuses.now.entries) change.now }
+fn shown(statuses: &Statuses, change: &Change) -> Option<EntryRow>
+    ensures { result ≡ shown_at (status_in_table statuses.now) change.now }
 {
     if !is_new(change.status) {
         return None;
     }
-    row_of(change, statuses.get(&id_of(change)).copied())
+    row_of(change, statuses.last(change))
+}
+
+// The rows of the entries that these changes add, by the last status of each.
+fn all_shown(
+    alloc: Global,
+    statuses: &Statuses,
+    changes: &[Change],
+) -> Result<Vec<EntryRow>, AllocError>
+    ensures { IfOk result (λ rows. rows.items
+        ≡ filter_map (shown_at (status_in_table statuses.now)) changes.now) }
+{
+    let mut rows = Vec::new(alloc);
+    for change in changes {
+        if let Some(row) = shown(statuses, change) {
+            rows.push(row)?;
+        }
+    }
+    Ok(rows)
 }
 
 // The entries in progress, in the order in which they were added.
 fn in_progress(alloc: Global, changes: &[Change]) -> Result<Vec<EntryRow>, AllocError>
     ensures { IfOk result (λ rows. rows.items ≡ in_progress_at changes.now) }
 {
-    let statuses = last_statuses(alloc, changes)?;
-    let mut rows = Vec::new(alloc);
-    for change in changes {
-        if let Some(row) = shown(&statuses, change) {
-            rows.push(row)?;
-        }
-    }
-    Ok(rows)
+    let statuses = Statuses::of(alloc, changes)?;
+    all_shown(alloc, &statuses, changes)
 }
 
 // What the rows come to.
@@ -99,8 +80,8 @@ fn amount_of(rows: &[EntryRow]) -> u128
     amount
 }
 
-/// The dashboard of a seller with these changes, which are fewer than 2^32: their number, how many entries are in progress,
-/// what these come to, and the first 50 of them.
+/// The dashboard of a seller with these changes, which are fewer than 2^32: their number, how many entries
+/// are in progress, what these come to, and the first `MOST_ROWS` of them.
 pub fn dashboard_of(alloc: Global, changes: &[Change]) -> Result<Reply, AllocError>
     requires { length changes.now < 2 ^ 32 }
     ensures { IfOk result (λ reply. reply ≡ dashboard_at changes.now) }

@@ -1,14 +1,13 @@
 -- A package that is closed by its number.
-use Rattle.std.proofs.Common.{◌≡◌, ℕ, ◌+◌, ◌-◌, ◌<◌, ◌≤◌, Bool, true, false, cond, ◌==◌, ◌||◌, List, [], ◌∷◌, ◌++◌, length, map, set, get_or, if◌then◌else◌, ⊎_elim, zero, suc, refl, ap, ap₂, sym, ◌∙◌, arith}
+use Rattle.std.proofs.Common.{◌≡◌, ℕ, ◌+◌, ◌<◌, ◌≤◌, Bool, true, false, cond, ◌==◌, ◌||◌, List, [], ◌∷◌, ◌++◌, length, map, set, get_or, if◌then◌else◌, ⊎_elim, zero, suc, refl, ap, ap₂, sym, ◌∙◌, arith}
 use Rattle.std.specs.List.{enumerate_from, list_any}
 use Rattle.std.proofs.lemmas.Bool.{cases_lt}
 use Rattle.std.proofs.lemmas.Bool.Decides.{nat_tests}
 use Rattle.std.specs.Map.{keys_of}
 use Rattle.market_events.specs.declared.bodies.Item.{Item}
-use Rattle.market_events.proofs.ListLaws.{list_any-push}
+use Rattle.market_events.proofs.Values.Lists.{list_any-push}
 use Rattle.shipment_service.specs.declared.package.Package.{Package}
-use Rattle.shipment_service.specs.Packed.{closed_of, close_if}
-use Rattle.shipment_service.specs.Waiting.{has_number}
+use Rattle.shipment_service.specs.Tables.{closed_of, close_if, has_number}
 
 -- the packages from a number on, those closed whose numbers pass
 abbrev pub close_from : (ℕ → Bool) → ℕ → List Package → List Package

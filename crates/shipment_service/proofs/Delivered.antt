@@ -1,15 +1,16 @@
 -- Which packages are open after a delivery, package by package.
-use Rattle.std.proofs.Common.{◌≡◌, ℕ, Bool, true, false, cond, ◌==◌, ◌&&◌, ◌||◌, not, List, [], ◌∷◌, ◌++◌, map, filter, take, ⊎_elim, if◌then◌else◌, refl, ap, sym, ◌∙◌, subst}
+use Rattle.std.proofs.Common.{◌≡◌, ℕ, Bool, true, false, cond, ◌==◌, ◌&&◌, ◌||◌, List, [], ◌∷◌, ◌++◌, map, filter, take, ⊎_elim, refl, ap, sym, ◌∙◌, subst}
 use Rattle.std.specs.List.{list_any}
 use Rattle.std.proofs.lemmas.List.{take-map}
 use Rattle.market_events.specs.declared.bodies.Item.{Item}
 use Rattle.market_events.specs.Orders.{is_item_of}
 use Rattle.market_events.specs.Requests.{same_id, same_key}
 use Rattle.market_events.specs.Shipments.{firsts_after, oldest_of, delivered_of, most_sellers}
-use Rattle.market_events.proofs.ListLaws.{and_both, or_right}
-use Rattle.market_events.proofs.SameLaws.{same_id-true, same_id-self, same_key-true, same_key-self}
-use Rattle.market_events.proofs.ShipmentLaws.{goes_with}
-use Rattle.shipment_service.specs.Waiting.{of_seller, is_with, heads_after, served_of, goes, taken_of}
+use Rattle.market_events.proofs.Values.Lists.{and_both, or_right}
+use Rattle.market_events.proofs.Values.Same.{same_id-true, same_id-self, same_key-true, same_key-self}
+use Rattle.market_events.proofs.Steps.Shipments.{goes_with}
+use Rattle.shipment_service.specs.Deliveries.{heads_after, served_of, goes, taken_of}
+use Rattle.shipment_service.specs.Tables.{of_seller}
 use Rattle.shipment_service.proofs.Heads.{Among}
 
 -- the packages without their numbers

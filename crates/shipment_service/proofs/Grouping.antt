@@ -1,11 +1,11 @@
 -- Packages of one checkout stand together: those in front of a queue that are of its first checkout are all of it.
-use Rattle.std.proofs.Common.{◌≡◌, ℕ, ◌+◌, ◌-◌, ◌<◌, ◌≤◌, Bool, true, false, cond, ◌==◌, ◌||◌, ◌&&◌, not, List, [], ◌∷◌, ◌++◌, length, take, drop, filter, get_or, suc, Option, Some, None, if◌then◌else◌, refl, ap, sym, ◌∙◌, subst, arith}
+use Rattle.std.proofs.Common.{◌≡◌, ℕ, ◌+◌, ◌<◌, Bool, true, false, cond, not, List, [], ◌∷◌, length, take, drop, filter, get_or, suc, refl, ap, sym, ◌∙◌, arith}
 use Rattle.std.specs.List.{list_any, prefix_len}
 use Rattle.market_events.specs.declared.bodies.Item.{Item}
-use Rattle.market_events.specs.Requests.{same_id}
-use Rattle.market_events.proofs.ListLaws.{or_parts, any_filter-none}
-use Rattle.market_events.proofs.SameLaws.{same_id-self}
-use Rattle.shipment_service.specs.Waiting.{is_with, past, group_len, group_of, behind_of, queue_of, of_seller, IsGrouped, first_number}
+use Rattle.market_events.proofs.Values.Lists.{or_parts, any_filter-none}
+use Rattle.market_events.proofs.Values.Same.{same_id-self}
+use Rattle.shipment_service.specs.Deliveries.{past, IsGrouped}
+use Rattle.shipment_service.specs.Tables.{is_with, group_len, group_of, behind_of}
 
 -- those in front that pass, and those behind them
 pub prefix-past : {A : Type 0} (test : A → Bool) (xs : List A) → drop (prefix_len test xs) xs ≡ past test xs

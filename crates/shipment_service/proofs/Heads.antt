@@ -1,6 +1,6 @@
 -- The first package of each seller, by the packages that wait.
-use Rattle.std.proofs.Common.{◌≡◌, ℕ, ◌+◌, ◌<◌, ◌≤◌, Bool, true, false, cond, ◌==◌, ◌||◌, ◌&&◌, not, List, [], ◌∷◌, ◌++◌, ◌⊎◌, inl, inr, ⊎_elim, map, take, filter, Option, Some, None, zero, suc, if◌then◌else◌, refl, ap, sym, ◌∙◌, subst, arith}
-use Rattle.std.specs.List.{list_any, AllByRecursion}
+use Rattle.std.proofs.Common.{◌≡◌, ℕ, ◌<◌, Bool, true, false, cond, ◌==◌, ◌||◌, List, [], ◌∷◌, ◌++◌, ◌⊎◌, inl, inr, ⊎_elim, map, take, filter, Option, Some, None, zero, suc, refl, ap, sym, ◌∙◌, subst, arith}
+use Rattle.std.specs.List.{list_any}
 use Rattle.std.specs.List.Sorted.{IsStrictlySortedBy}
 use Rattle.std.specs.Map.{keys_of}
 use Rattle.std.specs.Ordering.{nat_cmp}
@@ -9,9 +9,10 @@ use Rattle.std.proofs.lemmas.Bool.{eqb-true, eq-eqb, both_ways}
 use Rattle.std.proofs.lemmas.Bool.Decides.{nat_tests}
 use Rattle.std.proofs.lemmas.List.Folds.{list_any-append}
 use Rattle.market_events.specs.declared.bodies.Item.{Item}
-use Rattle.market_events.proofs.ListLaws.{or_parts, or_false}
-use Rattle.shipment_service.specs.Waiting.{entry_at, of_seller, queue_of, first_number, Waits, heads_after, IsRising}
-use Rattle.shipment_service.proofs.Lining.{same_some, none_some}
+use Rattle.market_events.proofs.Values.Lists.{or_parts, or_false}
+use Rattle.shipment_service.specs.Deliveries.{heads_after}
+use Rattle.shipment_service.specs.Tables.{entry_at, of_seller, queue_of, first_number, Waits, IsRising}
+use Rattle.shipment_service.proofs.Lining.{same_some}
 use Rattle.shipment_service.proofs.Numbers.{Above, entry_at-cons, first_at, rising_head, rising_tail, rising_cons, same_entries}
 
 -- the element is one of these

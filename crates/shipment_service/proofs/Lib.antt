@@ -9,7 +9,8 @@ pub mod Heads
 pub mod Serving
 pub mod Delivered
 pub mod Runs
+pub mod PackagesAfter
 pub mod Steps
-pub mod Joining
-pub mod PackageCells
-pub mod Touched
+pub mod TableCells
+pub mod Values
+pub mod Touches

@@ -1,21 +1,18 @@
 -- A package that is put behind all others, and taken away again.
-use Rattle.std.proofs.Common.{◌≡◌, ℕ, ◌+◌, ◌-◌, ◌<◌, ◌≤◌, Bool, true, false, cond, ◌==◌, ◌||◌, ◌&&◌, not, nat_lt, List, [], ◌∷◌, ◌++◌, length, take, Option, Some, None, filter, if◌then◌else◌, refl, ap, sym, ◌∙◌, subst, arith, append-nil, append_assoc, ◌↔◌, length-append}
-use Rattle.std.specs.List.{list_any, list_all, enumerate_from}
+use Rattle.std.proofs.Common.{◌≡◌, ℕ, ◌+◌, ◌-◌, ◌<◌, Bool, true, false, cond, ◌==◌, ◌||◌, nat_lt, List, [], ◌∷◌, ◌++◌, length, take, Option, Some, None, if◌then◌else◌, refl, ap, sym, ◌∙◌, subst, arith, append-nil, append_assoc, length-append}
+use Rattle.std.specs.List.{list_all, enumerate_from}
 use Rattle.std.proofs.lemmas.Bool.{eqb-true, eq-eqb, ltb-true}
 use Rattle.std.proofs.lemmas.Bool.Decides.{nat_tests}
-use Rattle.std.proofs.lemmas.List.{take-append-le}
 use Rattle.std.proofs.lemmas.List.Elements.{filter-append}
+use Rattle.market_events.proofs.NamedCells.Keyed.{none_some}
 use Rattle.market_events.specs.declared.bodies.Item.{Item}
-use Rattle.market_events.proofs.ListLaws.{and_both}
-use Rattle.shipment_service.specs.Waiting.{entry_at, put_at, has_number, of_seller, queue_of, queue_at, first_number, Waits, AreBelow}
+use Rattle.market_events.proofs.Values.Lists.{and_both}
+use Rattle.shipment_service.specs.Tables.{entry_at, put_at, has_number, of_seller, queue_of, queue_at, first_number, Waits, AreBelow}
 use Rattle.shipment_service.proofs.Numbers.{or_else}
 
 -- two equal somethings
 pub same_some : {A : Type 0} (x y : A) → Some x ≡ Some y → x ≡ y
 same_some x y e = cc
-
-pub none_some : {A : Type 0} (x : A) → None ≡ Some x → ⊥
-none_some x e = cc
 
 -- the first number of two lists
 pub first_number-append : (xs ys : List (ℕ × Item)) → first_number (xs ++ ys) ≡ or_else (first_number xs) (first_number ys)

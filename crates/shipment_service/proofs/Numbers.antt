@@ -1,16 +1,15 @@
 -- What lists of pairs have at a number.
-use Rattle.std.proofs.Common.{◌≡◌, ℕ, ◌+◌, ◌<◌, ◌≤◌, Bool, true, false, cond, ◌==◌, ◌||◌, ◌&&◌, not, List, [], ◌∷◌, ◌++◌, Option, Some, None, length, take, get_or, filter, fold, add-one, if◌then◌else◌, refl, ap, sym, ◌∙◌, subst, arith, ◌↔◌}
-use Rattle.std.specs.Map.{lookup, keys_of}
-use Rattle.std.specs.BTreeMap.{is_at, BTreeMap, IsOrdered, get}
-use Rattle.std.specs.List.{list_any, AllByRecursion}
+use Rattle.std.proofs.Common.{◌≡◌, ℕ, ◌+◌, ◌<◌, ◌≤◌, Bool, true, false, cond, ◌==◌, ◌||◌, List, [], ◌∷◌, ◌++◌, Option, Some, None, length, take, get_or, filter, add-one, if◌then◌else◌, refl, ap, sym, ◌∙◌, arith}
+use Rattle.std.specs.Map.{keys_of}
+use Rattle.std.specs.List.{AllByRecursion}
 use Rattle.std.specs.List.Sorted.{IsStrictlySortedBy}
 use Rattle.std.specs.Ordering.{nat_cmp, is_eq}
-use Rattle.std.specs.declared.cmp.Ordering.TheVariants.{Less, Equal, Greater}
+use Rattle.std.specs.declared.cmp.Ordering.TheVariants.{Less}
 use Rattle.std.proofs.lemmas.Bool.{eqb-true, eq-eqb}
 use Rattle.std.proofs.lemmas.Bool.Decides.{nat_tests}
 use Rattle.std.proofs.Math.Seq.{take-suc}
-use Rattle.market_events.proofs.ListLaws.{list_any-push}
-use Rattle.shipment_service.specs.Waiting.{entry_at, put_at, has_number}
+use Rattle.market_events.proofs.Values.Lists.{list_any-push}
+use Rattle.shipment_service.specs.Tables.{entry_at, put_at, has_number}
 
 -- the test of two numbers, as a map makes it
 pub at_test : (n k : ℕ) → is_eq (nat_cmp n k) ≡ (k == n)
@@ -218,12 +217,9 @@ pub put_at-more : {X : Type 0} (n : ℕ) (o : Option X) (xs : List (ℕ × X)) (
 put_at-more n o xs i d below = ap (put_at n o) (take_next xs i d below) ∙ put_at-append n o (take i xs) (get_or xs i d ∷ [])
 
 -- one number more is taken away, and one more is put
-pub one_taken : {X : Type 0} (k n : ℕ) (a : Bool) (now was old : Option X) → now ≡ cond (is_eq (nat_cmp k n)) None was → was ≡ cond a None old → now ≡ cond (a || (k == n)) None old
-one_taken {X = X} k n a now was old e h = e ∙ ap (λ b. cond {A = Option X} b None was) test ∙ by (k == n) a h
+pub one_taken : {X : Type 0} (k n : ℕ) (a : Bool) (now was old : Option X) → now ≡ cond (k == n) None was → was ≡ cond a None old → now ≡ cond (a || (k == n)) None old
+one_taken {X = X} k n a now was old e h = e ∙ by (k == n) a h
   where
-    test : is_eq (nat_cmp k n) ≡ (k == n)
-    test = grind (arith, nat_tests)
-
     by : (b a : Bool) → was ≡ cond a None old → cond {A = Option X} b None was ≡ cond (a || b) None old
     by true true h = refl
     by true false h = refl

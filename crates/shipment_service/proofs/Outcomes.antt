@@ -1,13 +1,5 @@
--- A fact of an outcome, as another one.
+-- Two facts of an outcome as one, and a fact that always holds.
 use Rattle.std.proofs.Common.{Result, Ok, Err, OnOk, OnErr}
-
-pub on_ok : {X E P Q : Type 0} → (P → Q) → (r : Result X E) → OnOk r P → OnOk r Q
-on_ok to (Ok x) p = to p
-on_ok to (Err e) p = tt
-
-pub on_err : {X E P Q : Type 0} → (P → Q) → (r : Result X E) → OnErr r P → OnErr r Q
-on_err to (Ok x) p = tt
-on_err to (Err e) p = to p
 
 -- two facts of an outcome, as one
 pub on_ok2 : {X E P Q R : Type 0} → (P → Q → R) → (r : Result X E) → OnOk r P → OnOk r Q → OnOk r R

@@ -1,5 +1,5 @@
 -- What a run leaves of the packages: they stand by number, those of a checkout together, and they are few.
-use Rattle.std.proofs.Common.{◌≡◌, ℕ, ◌+◌, ◌*◌, ◌<◌, ◌≤◌, Bool, true, false, cond, ◌&&◌, ◌||◌, not, List, [], ◌∷◌, ◌++◌, length, map, filter, nat_le, if◌then◌else◌, refl, ap, ap₂, sym, ◌∙◌, subst, length-append, ◌==◌, arith}
+use Rattle.std.proofs.Common.{◌≡◌, ℕ, ◌+◌, ◌*◌, ◌<◌, ◌≤◌, Bool, true, false, cond, ◌||◌, List, [], ◌∷◌, ◌++◌, length, map, refl, ap, ap₂, sym, ◌∙◌, subst, length-append, ◌==◌, arith}
 use Rattle.std.specs.List.{list_any, enumerate_from, AllByRecursion}
 use Rattle.std.specs.List.Sorted.{IsStrictlySortedBy}
 use Rattle.std.specs.Map.{keys_of}
@@ -13,25 +13,26 @@ use Rattle.market_events.specs.declared.bodies.Body.{Body}
 use Rattle.market_events.specs.declared.bodies.Body.TheVariants as body
 use Rattle.market_events.specs.declared.bodies.Item.{Item}
 use Rattle.market_events.specs.declared.bodies.PricedLine.{PricedLine}
-use Rattle.market_events.specs.Formed.{body_formed, lines_formed, checkout_formed}
+use Rattle.market_events.specs.Formed.{body_formed, checkout_formed}
 use Rattle.market_events.specs.Orders.{is_taken}
 use Rattle.market_events.specs.Requests.{same_id}
-use Rattle.market_events.specs.Services.{Role, Follows, IsRunOf, shipment_fits}
+use Rattle.market_events.specs.declared.roles.Role.{Role}
+use Rattle.market_events.specs.Services.{Follows, IsRunOf, shipment_fits}
 use Rattle.market_events.specs.Shipments.{packages_in, packages, is_open}
 use Rattle.market_events.specs.Steps.{Step}
 use Rattle.market_events.specs.Stocks.{confirms}
 use Rattle.market_events.specs.WellFormed.{most_lines, total_of}
-use Rattle.market_events.proofs.BoundLaws.{lines_formed-most}
-use Rattle.market_events.proofs.ListLaws.{and_both, or_parts, not_true}
-use Rattle.market_events.proofs.OrderRuns.{is_item_for}
-use Rattle.market_events.proofs.SameLaws.{same_id-true, same_id-self, same_id-swap}
-use Rattle.market_events.proofs.ShipmentLaws.{packages-push, packages-same}
-use Rattle.market_events.proofs.ShipmentRuns.{ShipmentRun, ShipmentRun-of, ShipmentRun-keeps}
-use Rattle.market_events.proofs.StepLaws.{fits-parts, run_has}
-use Rattle.market_events.proofs.StockRuns.{checkout_formed-lines}
-use Rattle.shipment_service.specs.Kept.{waiting_by}
-use Rattle.shipment_service.specs.Packed.{item_of}
-use Rattle.shipment_service.specs.Waiting.{is_with, past, IsGrouped, IsRising, IsLined}
+use Rattle.market_events.proofs.Runs.Bounds.{lines_formed-most}
+use Rattle.market_events.proofs.Values.Lists.{and_both, or_parts, not_true}
+use Rattle.market_events.proofs.Runs.Orders.{is_item_for}
+use Rattle.market_events.proofs.Values.Same.{same_id-self}
+use Rattle.market_events.proofs.Steps.Shipments.{packages-push, packages-same}
+use Rattle.market_events.proofs.Runs.Shipments.{ShipmentRun, ShipmentRun-of, ShipmentRun-keeps}
+use Rattle.market_events.proofs.Steps.Taken.{fits-parts, run_has}
+use Rattle.market_events.proofs.Runs.Stock.{checkout_formed-lines}
+use Rattle.shipment_service.specs.Deliveries.{past, IsGrouped, IsLined}
+use Rattle.shipment_service.specs.Holds.{waiting_by}
+use Rattle.shipment_service.specs.Tables.{is_with, IsRising, item_packed}
 use Rattle.shipment_service.proofs.Grouping.{grouped-filter}
 use Rattle.shipment_service.proofs.Numbers.{Above, rising_cons, rising-filter}
 
@@ -84,7 +85,7 @@ grouped-append (p ∷ ps) qs grouped also apart = (past-append (is_with p) ps qs
 -- the packages of one payment, with their numbers
 module _ (checkout : RequestId) (customer : ℕ) where
   abbrev pub paid_from : ℕ → List PricedLine → List (ℕ × Item)
-  paid_from from lines = enumerate_from from (map (item_of checkout customer) lines)
+  paid_from from lines = enumerate_from from (map (item_packed checkout customer) lines)
 
   all-with : (p : ℕ × Item) → p.1.checkout ≡ checkout → (from : ℕ) (lines : List PricedLine) → past (is_with p) (paid_from from lines) ≡ []
   all-with p is from [] = refl
@@ -95,7 +96,7 @@ module _ (checkout : RequestId) (customer : ℕ) where
   paid-grouped : (from : ℕ) (lines : List PricedLine) → IsGrouped (paid_from from lines)
   paid-grouped from [] = tt
   paid-grouped from (line ∷ lines) =
-      (ap (list_any (is_with (from, item_of checkout customer line))) (all-with (from, item_of checkout customer line) refl (from + 1) lines), paid-grouped (from + 1) lines)
+      (ap (list_any (is_with (from, item_packed checkout customer line))) (all-with (from, item_packed checkout customer line) refl (from + 1) lines), paid-grouped (from + 1) lines)
 
   none-with : (p : ℕ × Item) → same_id p.1.checkout checkout ≡ false → (from : ℕ) (lines : List PricedLine) → list_any (is_with p) (paid_from from lines) ≡ false
   none-with p other from [] = refl
@@ -122,21 +123,21 @@ same_packages steps s none kept =
 by_body : (steps : List Step) (s : Step) (b : Body) → s.body ≡ b → shipment_fits steps b ≡ true → body_formed b ≡ true → PackedRun steps
     → IsGrouped (enumerate_from 1 (packages (steps ++ s ∷ []))) × (length (packages (steps ++ s ∷ [])) ≤ most_lines * length (steps ++ s ∷ []))
 by_body steps s (body.Confirmed checkout customer lines total) is fit formed kept = (
-  subst IsGrouped (sym (ap (enumerate_from 1) now ∙ enumerate-append 1 (packages steps) (map (item_of checkout customer) lines)))
+  subst IsGrouped (sym (ap (enumerate_from 1) now ∙ enumerate-append 1 (packages steps) (map (item_packed checkout customer) lines)))
       (grouped-append (enumerate_from 1 (packages steps)) (paid_from checkout customer (1 + length (packages steps)) lines) kept.grouped (paid-grouped checkout customer (1 + length (packages steps)) lines)
       (others-apart checkout customer 1 (packages steps) (kept.run.unpacked checkout (not_true (is_taken confirms steps checkout) fit)) (1 + length (packages steps)) lines)),
   omega (
     arith,
     ap length now,
-    length-append (packages steps) (map (item_of checkout customer) lines),
-    length-map lines (item_of checkout customer),
+    length-append (packages steps) (map (item_packed checkout customer) lines),
+    length-map lines (item_packed checkout customer),
     lines_formed-most lines (checkout_formed-lines checkout customer lines (and_both (checkout_formed checkout customer lines) (total == total_of lines) formed).0),
     kept.few,
     length-append steps (s ∷ []),
   ),
 )
   where
-    now : packages (steps ++ s ∷ []) ≡ packages steps ++ map (item_of checkout customer) lines
+    now : packages (steps ++ s ∷ []) ≡ packages steps ++ map (item_packed checkout customer) lines
     now = packages-push steps s ∙ ap (λ b. packages steps ++ packages_in b) is
 by_body steps s (body.Asked request) is fit formed kept = same_packages steps s (ap packages_in is) kept
 by_body steps s other is fit formed kept = cc

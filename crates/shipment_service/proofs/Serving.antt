@@ -1,5 +1,5 @@
 -- What a delivery takes, and what stands first after it.
-use Rattle.std.proofs.Common.{◌≡◌, ℕ, ◌+◌, ◌<◌, ◌≤◌, Bool, true, false, cond, ◌==◌, ◌||◌, ◌&&◌, not, List, [], ◌∷◌, ◌++◌, ◌⊎◌, inl, inr, ⊎_elim, map, take, filter, filter_map, Option, Some, None, option_map, if◌then◌else◌, refl, ap, ap₂, sym, ◌∙◌, subst, arith, ◌↔◌}
+use Rattle.std.proofs.Common.{◌≡◌, ℕ, Bool, true, false, cond, ◌==◌, ◌||◌, ◌&&◌, not, List, [], ◌∷◌, ◌⊎◌, inl, inr, ⊎_elim, map, filter, filter_map, Option, Some, None, option_map, if◌then◌else◌, refl, ap, ap₂, sym, ◌∙◌, subst, arith}
 use Rattle.std.specs.List.{list_any, cons_option}
 use Rattle.std.specs.List.Sorted.{IsStrictlySortedBy}
 use Rattle.std.specs.Map.{keys_of}
@@ -7,13 +7,14 @@ use Rattle.std.specs.Ordering.{nat_cmp}
 use Rattle.std.proofs.lemmas.Bool.{eqb-true, eq-eqb, both_ways}
 use Rattle.std.proofs.lemmas.Bool.Decides.{nat_tests}
 use Rattle.market_events.specs.declared.bodies.Item.{Item}
-use Rattle.market_events.specs.Requests.{same_id}
 use Rattle.market_events.specs.Shipments.{most_sellers}
-use Rattle.market_events.proofs.ListLaws.{or_parts, or_false}
-use Rattle.shipment_service.specs.Waiting.{entry_at, put_at, has_number, of_seller, queue_of, queue_at, is_with, group_of, behind_of, groups_of, follower_of, served_queue, first_number, Waits, heads_after, served_of, goes, taken_of, left_of, past, IsGrouped, IsRising, IsLined}
+use Rattle.market_events.proofs.Values.Lists.{or_parts, or_false}
+use Rattle.shipment_service.specs.Deliveries.{heads_after, served_of, goes, taken_of, left_of, past, IsGrouped}
+use Rattle.shipment_service.specs.Tables.{entry_at, put_at, has_number, of_seller, queue_of, queue_at, is_with, group_of, behind_of, groups_of, follower_of, served_queue, first_number, Waits, IsRising}
 use Rattle.shipment_service.proofs.Grouping.{grouped-filter, behind_of-past, behind_of-filter, group_of-filter}
 use Rattle.shipment_service.proofs.Heads.{Among, among-take, among-filter, among-any, any-among, among-above, entry-among, seller_of, IsFirst, heads-first, Apart, heads-apart, apart-take, turn_of, among-turns, turns-among, first_of}
-use Rattle.shipment_service.proofs.Lining.{same_some, none_some}
+use Rattle.market_events.proofs.NamedCells.Keyed.{none_some}
+use Rattle.shipment_service.proofs.Lining.{same_some}
 use Rattle.shipment_service.proofs.Numbers.{or_else, kept_if, entry_at-filter, put_at-append, put_at-rising, rising-filter, rising_head, same_entries}
 
 -- filters one after the other

@@ -1,207 +1,203 @@
--- What one more step makes of the packages: those of a payment are put last, and those of a delivery are closed.
-use Rattle.std.proofs.Common.{◌≡◌, ℕ, ◌+◌, ◌<◌, ◌≤◌, Bool, true, false, cond, ◌&&◌, ◌||◌, not, List, [], ◌∷◌, ◌++◌, length, map, filter, filter_map, Option, Some, None, if◌then◌else◌, refl, ap, ap₂, sym, ◌∙◌, subst, arith, ⊎_elim, inl, inr}
-use Rattle.std.specs.List.{list_any, enumerate_from, flat_map}
+-- One more step: what is answered, and that the tables hold the steps after it.
+use Rattle.std.proofs.Common.{◌≡◌, ℕ, ◌+◌, ◌≤◌, ◌^◌, ◌==◌, Bool, true, false, cond, nat_lt, List, [], ◌∷◌, ◌++◌, length, map, take, filter, filter_map, refl, ap, sym, ◌∙◌, subst, arith}
+use Rattle.std.specs.List.{enumerate_from, flat_map}
 use Rattle.std.specs.List.Sorted.{IsStrictlySortedBy}
-use Rattle.std.proofs.lemmas.List.Elements.{filter-append}
-use Rattle.std.proofs.lemmas.List.Folds.{list_any-append}
-use Rattle.std.proofs.lemmas.List.{map-append}
+use Rattle.std.specs.Map.{keys_of, values_of}
+use Rattle.std.specs.Ordering.{nat_cmp}
+use Rattle.std.proofs.lemmas.Bool.Decides.{nat_tests}
+use Rattle.std.proofs.lemmas.List.{length-map}
 use Rattle.market_amounts.specs.declared.keys.RequestId.{RequestId}
 use Rattle.market_events.specs.declared.bodies.Body.{Body}
 use Rattle.market_events.specs.declared.bodies.Body.TheVariants as body
 use Rattle.market_events.specs.declared.bodies.Item.{Item}
 use Rattle.market_events.specs.declared.bodies.PricedLine.{PricedLine}
-use Rattle.market_events.specs.declared.links.Link.TheVariants.{Service}
+use Rattle.market_events.specs.declared.links.Link.{Link}
+use Rattle.market_events.specs.declared.links.TheConstants.{SHIPMENT_TO_ORDER, SHIPMENT_TO_SELLER, SHIPMENT_TO_CUSTOMER}
+use Rattle.market_events.specs.declared.requests.Ask.{Ask}
 use Rattle.market_events.specs.declared.requests.Ask.TheVariants as ask
-use Rattle.market_events.specs.Orders.{is_item_of, is_taken, items_in}
-use Rattle.market_events.specs.Requests.{same_id}
-use Rattle.market_events.specs.Shipments.{packages_in, packages, items_made, is_open, open_packages, oldest_of, delivered_of, deliver_rows, shipment_asked, shipment_rows, shipment_sums}
+use Rattle.market_events.specs.declared.requests.Request.{Request}
+use Rattle.market_events.specs.Formed.{body_formed, checkout_formed}
+use Rattle.market_events.specs.Orders.{items_in, is_taken}
+use Rattle.market_events.specs.declared.roles.Role.{Role}
+use Rattle.market_events.specs.Services.{IsRunOf, fits, reactions, shipment_fits}
+use Rattle.market_events.specs.Shipments.{packages_in, packages, is_open, open_packages, oldest_of, delivered_of, deliver_rows, most_sellers, shipment_asked, shipment_rows, shipment_sums}
+use Rattle.market_events.specs.Standing.{step_of, with_step}
 use Rattle.market_events.specs.Steps.{Step, Sending, body_on}
 use Rattle.market_events.specs.Stocks.{confirms}
-use Rattle.market_events.proofs.ListLaws.{or_parts}
-use Rattle.market_events.proofs.OrderRuns.{is_item_for}
-use Rattle.market_events.proofs.ShipmentLaws.{packages-push, packages-same, items_of, items_made-push, items_made-same, deliver_rows-items, goes_with}
-use Rattle.market_events.proofs.ShipmentRuns.{ShipmentRun}
+use Rattle.market_events.specs.WellFormed.{most_items, total_of}
+use Rattle.market_events.proofs.Runs.Bounds.{lines_formed-most}
+use Rattle.market_events.proofs.Values.Lists.{and_both, not_true}
+use Rattle.market_events.proofs.Runs.Packages.{delivered_of-most}
+use Rattle.market_events.proofs.Steps.Shipments.{answers-shipment, deliver_rows-items, items_of}
+use Rattle.market_events.proofs.Runs.Shipments.{ShipmentRun-of}
+use Rattle.market_events.proofs.Runs.Standing.{reactions-fit}
+use Rattle.market_events.proofs.Steps.Taken.{Parts, fits-parts}
+use Rattle.market_events.proofs.Runs.Stock.{checkout_formed-lines}
 use Rattle.shipment_service.specs.declared.package.Package.{Package}
-use Rattle.shipment_service.specs.Kept.{package_by, packages_by, waiting_by}
-use Rattle.shipment_service.specs.Packed.{item_of, open_of, closed_of, close_if}
-use Rattle.shipment_service.specs.Waiting.{entry_at, has_number, goes, served_of, taken_of, left_of}
-use Rattle.shipment_service.proofs.Delivered.{filter-items, goes-items, delivered-any}
-use Rattle.shipment_service.proofs.Heads.{Among, among-filter, entry-among}
-use Rattle.shipment_service.proofs.Numbers.{kept_if, entry_at-filter, has_number-none, has_number-some}
-use Rattle.shipment_service.proofs.Runs.{enumerate-append, waiting-rise}
+use Rattle.shipment_service.specs.declared.service.Shipments.{Shipments}
+use Rattle.shipment_service.specs.Deliveries.{CanServe, heads_after, served_of, taken_of, left_of}
+use Rattle.shipment_service.specs.Holds.{package_by, packages_by, waiting_by, Holds}
+use Rattle.shipment_service.specs.Tables.{open_of, close_if, has_number, Waits, AreBelow, IsRising, item_packed}
+use Rattle.shipment_service.proofs.Delivered.{served-items, taken-items}
+use Rattle.shipment_service.proofs.Heads.{turn_of, take-turns, oldest-heads}
+use Rattle.shipment_service.proofs.Runs.{waiting-lined, packages-few}
+use Rattle.shipment_service.proofs.PackagesAfter.{packages-still, waiting-still, packages-paid, waiting-paid, waiting-items, waiting-delivered, packages-delivered}
 
--- what is open goes by the items that were delivered
-abbrev open_by : List Item → Item → Bool
-open_by made p = not (list_any (is_item_of p.checkout p.key) made)
+-- the turns of a delivery are those of the packages that it serves
+pub turns-are : (queues : List (ℕ × List (ℕ × Item))) (oldest : List (ℕ × ℕ)) (waiting : List (ℕ × Item)) → Waits queues oldest waiting → IsRising waiting
+    → IsStrictlySortedBy nat_cmp (keys_of oldest) → (turns : List (ℕ × ℕ)) → turns ≡ take most_sellers oldest → turns ≡ map turn_of (served_of waiting)
+turns-are queues oldest waiting waits rise ordered turns is =
+    is ∙ ap (take most_sellers) (oldest-heads queues oldest waiting waits rise ordered) ∙ take-turns most_sellers (heads_after [] waiting)
 
-abbrev package_of : List Item → Item → Package
-package_of made item = record { item = item; is_open = open_by made item }
+-- what a delivery takes, by the definitions
+pub taken-by : (steps : List Step) → values_of (taken_of (waiting_by steps)) ≡ delivered_of (open_packages steps)
+taken-by steps = taken-items (waiting_by steps) ∙ ap delivered_of (waiting-items steps)
 
--- a step that brings no package and makes no delivery
-module _ (steps : List Step) (s : Step) (nothing : items_of s ≡ []) where
-  pub packages-still : packages_in s.body ≡ [] → packages_by (steps ++ s ∷ []) ≡ packages_by steps
-  packages-still none = λ i. map (package_of (items_made-same steps s nothing i)) (packages-same steps s none i)
+pub served-by : (steps : List Step) → length (served_of (waiting_by steps)) ≡ length (oldest_of (open_packages steps))
+served-by steps =
+    sym (length-map (served_of (waiting_by steps)) (λ (p : ℕ × Item). p.1)) ∙ ap length (served-items (waiting_by steps) ∙ ap oldest_of (waiting-items steps))
 
-  pub waiting-still : packages_in s.body ≡ [] → waiting_by (steps ++ s ∷ []) ≡ waiting_by steps
-  waiting-still none = λ i. filter (λ (p : ℕ × Item). open_by (items_made-same steps s nothing i) p.1) (enumerate_from 1 (packages-same steps s none i))
+pub taken-few : (steps : List Step) → IsRunOf Role.Shipment steps → length (taken_of (waiting_by steps)) ≤ most_items
+taken-few steps run =
+    omega (
+      arith,
+      length-map (taken_of (waiting_by steps)) (λ (p : ℕ × Item). p.1),
+      ap length (taken-by steps),
+      delivered_of-most steps run,
+    )
 
-  -- a payment of a checkout of which nothing was delivered
-  module _ (checkout : RequestId) (customer : ℕ) (lines : List PricedLine) (total : ℕ) (is : s.body ≡ body.Confirmed checkout customer lines total) (none : list_any (is_item_for checkout) (items_made steps) ≡ false) where
-    now : packages (steps ++ s ∷ []) ≡ packages steps ++ map (item_of checkout customer) lines
-    now = packages-push steps s ∙ ap (λ b. packages steps ++ packages_in b) is
+-- the numbers of the open packages are no more than all packages
+numbers-below : (test : Item → Bool) (from n : ℕ) (items : List Item) → from + length items ≤ n → AreBelow n (filter (λ (p : ℕ × Item). test p.1) (enumerate_from from items))
+numbers-below test from n [] low = refl
+numbers-below test from n (i ∷ items) low = by (test i) (numbers-below test (from + 1) n items (omega arith))
+  where
+    here : nat_lt from n ≡ true
+    here = grind (arith, nat_tests)
 
-    new_open : (line : PricedLine) → is_open steps (item_of checkout customer line) ≡ true
-    new_open line = ap not (among (items_made steps) none)
+    by : (b : Bool) → AreBelow n (filter (λ (p : ℕ × Item). test p.1) (enumerate_from (from + 1) items))
+        → AreBelow n (cond b ((from, i) ∷ filter (λ (p : ℕ × Item). test p.1) (enumerate_from (from + 1) items)) (filter (λ (p : ℕ × Item). test p.1) (enumerate_from (from + 1) items)))
+    by true rest = rw here rest
+    by false rest = rest
+
+pub waiting-below : (steps : List Step) (n : ℕ) → length (packages steps) + 1 ≤ n → AreBelow n (waiting_by steps)
+waiting-below steps n low = numbers-below (is_open steps) 1 n (packages steps) (omega arith)
+
+pub table-length : (table : List Package) (steps : List Step) → table ≡ packages_by steps → length table ≡ length (packages steps)
+table-length table steps is = ap length is ∙ length-map (packages steps) (package_by steps)
+
+-- a step that stands and fits
+module _ (shipments : Shipments) (steps : List Step) (run : IsRunOf Role.Shipment steps) (held : Holds shipments steps) (from : Link) (b : Body) (fit : fits Role.Shipment steps from b ≡ true) where
+  abbrev s : Step
+  s = step_of Role.Shipment steps from b
+
+  parts : Parts Role.Shipment steps from b
+  parts = fits-parts Role.Shipment steps from b fit
+
+  pub reacts : reactions Role.Shipment steps from b ≡ shipment_rows (shipment_sums steps) b
+  reacts = reactions-fit Role.Shipment steps from b fit ∙ answers-shipment steps from b
+
+  items-by : (rows : List Sending) → shipment_rows (shipment_sums steps) b ≡ rows → items_of s ≡ flat_map items_in (filter_map (body_on SHIPMENT_TO_CUSTOMER) rows)
+  items-by rows is = ap (λ m. flat_map items_in (filter_map (body_on SHIPMENT_TO_CUSTOMER) m)) (answers-shipment steps from b ∙ is)
+
+  -- the table has room for the packages of a payment
+  pub room : (checkout : RequestId) (customer : ℕ) (lines : List PricedLine) (total : ℕ) → b ≡ body.Confirmed checkout customer lines total → length shipments.packages + length lines + 2 ≤ 2 ^ 32
+  room checkout customer lines total is =
+      let formed : body_formed (body.Confirmed checkout customer lines total) ≡ true = sym (ap body_formed is) ∙ parts.formed in
+      omega (
+        arith,
+        table-length shipments.packages steps held.packages,
+        packages-few steps run,
+        parts.few,
+        lines_formed-most lines (checkout_formed-lines checkout customer lines (and_both (checkout_formed checkout customer lines) (total == total_of lines) formed).0),
+      )
+
+  -- a delivery
+  module _ (request : Request) (is : b ≡ body.Asked request) (delivers : request.ask ≡ ask.Deliver) where
+    rows : shipment_rows (shipment_sums steps) b ≡ deliver_rows request.id (delivered_of (open_packages steps)) (length (oldest_of (open_packages steps)))
+    rows = ap (shipment_rows (shipment_sums steps)) is ∙ ap (shipment_asked (shipment_sums steps) request.id) delivers
+
+    pub deliver-made : deliver_rows request.id (values_of (taken_of (waiting_by steps))) (length (served_of (waiting_by steps))) ≡ reactions Role.Shipment steps from b
+    deliver-made = (λ i. deliver_rows request.id (taken-by steps i) (served-by steps i)) ∙ sym (reacts ∙ rows)
+
+    made : items_of s ≡ delivered_of (open_packages steps)
+    made =
+        items-by (deliver_rows request.id (delivered_of (open_packages steps)) (length (oldest_of (open_packages steps)))) rows
+        ∙ deliver_rows-items request.id (delivered_of (open_packages steps)) (length (oldest_of (open_packages steps)))
+
+    pub packages-after-delivery : packages_by (with_step Role.Shipment steps from b) ≡ close_if (has_number (taken_of (waiting_by steps))) shipments.packages
+    packages-after-delivery = packages-delivered steps s (ap packages_in is) made ∙ ap (close_if (has_number (taken_of (waiting_by steps)))) (sym held.packages)
+
+    pub deliver-kept : (now : Shipments) → now.packages ≡ close_if (has_number (taken_of (waiting_by steps))) shipments.packages
+        → Waits now.waiting.queues now.waiting.oldest (left_of (waiting_by steps)) → Holds now (with_step Role.Shipment steps from b)
+    deliver-kept now closed left = record {
+      packages = closed ∙ sym packages-after-delivery;
+      waiting = subst (Waits now.waiting.queues now.waiting.oldest) (sym (waiting-delivered steps s (ap packages_in is) made)) left;
+    }
+
+  -- a payment
+  module _ (checkout : RequestId) (customer : ℕ) (lines : List PricedLine) (total : ℕ) (is : b ≡ body.Confirmed checkout customer lines total) where
+    pub ship-made : (SHIPMENT_TO_SELLER, body.Shipped checkout) ∷ (SHIPMENT_TO_ORDER, body.Shipped checkout) ∷ [] ≡ reactions Role.Shipment steps from b
+    ship-made = sym (reacts ∙ ap (shipment_rows (shipment_sums steps)) is)
+
+    nothing : items_of s ≡ []
+    nothing = items-by ((SHIPMENT_TO_SELLER, body.Shipped checkout) ∷ (SHIPMENT_TO_ORDER, body.Shipped checkout) ∷ []) (ap (shipment_rows (shipment_sums steps)) is)
+
+    undelivered : is_taken confirms steps checkout ≡ false
+    undelivered = not_true (is_taken confirms steps checkout) (sym (ap (shipment_fits steps) is) ∙ parts.due)
+
+    pub packages-after-payment : packages_by (with_step Role.Shipment steps from b) ≡ shipments.packages ++ map open_of (map (item_packed checkout customer) lines)
+    packages-after-payment =
+        packages-paid steps s nothing checkout customer lines total is ((ShipmentRun-of steps run).undelivered checkout undelivered)
+        ∙ ap (λ ps. ps ++ map open_of (map (item_packed checkout customer) lines)) (sym held.packages)
+
+    pub ship-kept : (now : Shipments) → now.packages ≡ shipments.packages ++ map open_of (map (item_packed checkout customer) lines)
+        → ((waiting : List (ℕ × Item)) → Waits shipments.waiting.queues shipments.waiting.oldest waiting → AreBelow (length shipments.packages + 1) waiting
+        → Waits now.waiting.queues now.waiting.oldest (waiting ++ enumerate_from (length shipments.packages + 1) (map (item_packed checkout customer) lines)))
+        → Holds now (with_step Role.Shipment steps from b)
+    ship-kept now packed waits = record {
+      packages = packed ∙ sym packages-after-payment;
+      waiting = subst (Waits now.waiting.queues now.waiting.oldest)
+          (ap (λ k. waiting_by steps ++ enumerate_from k (map (item_packed checkout customer) lines)) number
+          ∙ sym (waiting-paid steps s nothing checkout customer lines total is ((ShipmentRun-of steps run).undelivered checkout undelivered)))
+          (waits (waiting_by steps) held.waiting (waiting-below steps (length shipments.packages + 1) (omega (arith, table-length shipments.packages steps held.packages))));
+    }
       where
-        among : (items : List Item) → list_any (is_item_for checkout) items ≡ false → list_any (is_item_of checkout line.key) items ≡ false
-        among [] none = refl
-        among (i ∷ items) none =
-            let both = or_parts (same_id i.checkout checkout) (list_any (is_item_for checkout) items) none in
-            rw both.0 (among items both.1)
+        number : length shipments.packages + 1 ≡ 1 + length (packages steps)
+        number = omega (arith, table-length shipments.packages steps held.packages)
 
-    new_packages : (lines : List PricedLine) → map (package_by steps) (map (item_of checkout customer) lines) ≡ map open_of (map (item_of checkout customer) lines)
-    new_packages [] = refl
-    new_packages (line ∷ lines) = λ i. (let p : Package = record { item = item_of checkout customer line; is_open = new_open line i } in p) ∷ new_packages lines i
+  -- a request that makes nothing
+  module _ (none : packages_in b ≡ []) (quiet : shipment_rows (shipment_sums steps) b ≡ []) where
+    pub quiet-made : [] ≡ reactions Role.Shipment steps from b
+    quiet-made = sym (reacts ∙ quiet)
 
-    pub packages-paid : packages_by (steps ++ s ∷ []) ≡ packages_by steps ++ map open_of (map (item_of checkout customer) lines)
-    packages-paid =
-        (λ i. map (package_of (items_made-same steps s nothing i)) (now i)) ∙ map-append (package_by steps) (packages steps) (map (item_of checkout customer) lines)
-        ∙ ap (λ ps. packages_by steps ++ ps) (new_packages lines)
+    pub packages-after-quiet : packages_by (with_step Role.Shipment steps from b) ≡ shipments.packages
+    packages-after-quiet = packages-still steps s (items-by [] quiet) none ∙ sym held.packages
 
-    new_waiting : (from : ℕ) (lines : List PricedLine) → filter (λ (p : ℕ × Item). is_open steps p.1) (enumerate_from from (map (item_of checkout customer) lines)) ≡ enumerate_from from (map (item_of checkout customer) lines)
-    new_waiting from [] = refl
-    new_waiting from (line ∷ lines) = rw (new_open line) (ap (λ ps. (from, item_of checkout customer line) ∷ ps) (new_waiting (from + 1) lines))
+    pub quiet-kept : Holds shipments (with_step Role.Shipment steps from b)
+    quiet-kept = record {
+      packages = sym packages-after-quiet;
+      waiting = subst (Waits shipments.waiting.queues shipments.waiting.oldest) (sym (waiting-still steps s (items-by [] quiet) none)) held.waiting;
+    }
 
-    pub waiting-paid : waiting_by (steps ++ s ∷ []) ≡ waiting_by steps ++ enumerate_from (1 + length (packages steps)) (map (item_of checkout customer) lines)
-    waiting-paid =
-        (λ i. filter (λ (p : ℕ × Item). open_by (items_made-same steps s nothing i) p.1) (enumerate_from 1 (now i)))
-        ∙ ap (filter (λ (p : ℕ × Item). is_open steps p.1)) (enumerate-append 1 (packages steps) (map (item_of checkout customer) lines))
-        ∙ filter-append (λ (p : ℕ × Item). is_open steps p.1) (enumerate_from 1 (packages steps)) (enumerate_from (1 + length (packages steps)) (map (item_of checkout customer) lines))
-        ∙ ap (λ ps. waiting_by steps ++ ps) (new_waiting (1 + length (packages steps)) lines)
-
--- the open packages without their numbers
-pub waiting-items : (steps : List Step) → map (λ (p : ℕ × Item). p.1) (waiting_by steps) ≡ open_packages steps
-waiting-items steps = filter-items (is_open steps) (enumerate_from 1 (packages steps)) ∙ ap (filter (is_open steps)) (bare 1 (packages steps))
+-- requests that are no deliveries
+pub quiet-asked : (steps : List Step) (request : Request) → (request.ask ≡ ask.Deliver → ⊥) → shipment_rows (shipment_sums steps) (body.Asked request) ≡ []
+quiet-asked steps request other = by request.ask other
   where
-    bare : (from : ℕ) (items : List Item) → map (λ (p : ℕ × Item). p.1) (enumerate_from from items) ≡ items
-    bare from [] = refl
-    bare from (i ∷ items) = ap (λ is. i ∷ is) (bare (from + 1) items)
+    by : (a : Ask) → (a ≡ ask.Deliver → ⊥) → shipment_asked (shipment_sums steps) request.id a ≡ []
+    by ask.Deliver other = absurd (other refl)
+    by a other = refl
 
--- elements of lists
-among-map : {A B : Type 0} (f : A → B) (x : A) (xs : List A) → Among x xs → Among (f x) (map f xs)
-among-map f x [] among = absurd among
-among-map f x (y ∷ ys) among = ⊎_elim (λ is. inl (ap f is)) (λ later. inr (among-map f x ys later)) among
+-- the tables can serve a delivery
+pub can_serve : (shipments : Shipments) (steps : List Step) → IsRunOf Role.Shipment steps → Holds shipments steps → CanServe shipments.waiting.queues shipments.waiting.oldest (waiting_by steps)
+can_serve shipments steps run held = record { waits = held.waiting; lined = waiting-lined steps run; few = taken-few steps run }
 
-filter-among : {A : Type 0} (test : A → Bool) (x : A) (xs : List A) → Among x xs → test x ≡ true → Among x (filter test xs)
-filter-among test x [] among passes = absurd among
-filter-among test x (y ∷ ys) among passes = ⊎_elim here (λ later. more (test y) (filter-among test x ys later passes)) among
+-- no other body fits
+pub no_other : (steps : List Step) (from : Link) (b : Body) → fits Role.Shipment steps from b ≡ true → ((request : Request) → b ≡ body.Asked request → ⊥)
+    → ((checkout : RequestId) (customer : ℕ) (lines : List PricedLine) (total : ℕ) → b ≡ body.Confirmed checkout customer lines total → ⊥) → ⊥
+no_other steps from b fit not_asked not_paid = by b (fits-parts Role.Shipment steps from b fit).due not_asked not_paid
   where
-    here : x ≡ y → Among x (filter test (y ∷ ys))
-    here is = subst (λ b. Among x (cond b (y ∷ filter test ys) (filter test ys))) (sym (sym (ap test is) ∙ passes)) (inl is)
-
-    more : (b : Bool) → Among x (filter test ys) → Among x (cond b (y ∷ filter test ys) (filter test ys))
-    more true a = inr a
-    more false a = a
-
--- tests that agree at each element
-filter-each : {A : Type 0} (f g : A → Bool) (xs : List A) → ((x : A) → Among x xs → f x ≡ g x) → filter f xs ≡ filter g xs
-filter-each f g [] agree = refl
-filter-each {A = A} f g (x ∷ xs) agree = ap₂ (λ b ys. cond b (x ∷ ys) ys) (agree x (inl refl)) (filter-each f g xs (λ y among. agree y (inr among)))
-
-map-each : {A B : Type 0} (f g : A → B) (xs : List A) → ((x : A) → Among x xs → f x ≡ g x) → map f xs ≡ map g xs
-map-each f g [] agree = refl
-map-each f g (x ∷ xs) agree = ap₂ (λ y ys. y ∷ ys) (agree x (inl refl)) (map-each f g xs (λ y among. agree y (inr among)))
-
-filter-twice : {A : Type 0} (f g : A → Bool) (xs : List A) → filter f (filter g xs) ≡ filter (λ x. g x && f x) xs
-filter-twice f g [] = refl
-filter-twice f g (x ∷ xs) = by (g x) (f x) refl (filter-twice f g xs)
-  where
-    by : (a b : Bool) → f x ≡ b → filter f (filter g xs) ≡ filter (λ x. g x && f x) xs → filter f (cond a (x ∷ filter g xs) (filter g xs)) ≡ cond (a && b) (x ∷ filter (λ x. g x && f x) xs) (filter (λ x. g x && f x) xs)
-    by true true is rest = rw is (ap (λ ys. x ∷ ys) rest)
-    by true false is rest = rw is rest
-    by false b is rest = rest
-
--- a delivery
-module _ (steps : List Step) (s : Step) (none : packages_in s.body ≡ []) (made : items_of s ≡ delivered_of (open_packages steps)) where
-  -- what is open after it
-  still : (p : ℕ × Item) → Among p (enumerate_from 1 (packages steps)) → is_open (steps ++ s ∷ []) p.1 ≡ (is_open steps p.1 && not (goes (served_of (waiting_by steps)) p))
-  still p among =
-      ap (λ items. open_by items p.1) (items_made-push steps s ∙ ap (λ items. items_made steps ++ items) made)
-      ∙ ap not (list_any-append (is_item_of p.1.checkout p.1.key) (items_made steps) (delivered_of (open_packages steps)))
-      ∙ by (is_open steps p.1) refl
-    where
-      neither : (a b : Bool) → not (a || b) ≡ (not a && not b)
-      neither true b = refl
-      neither false b = refl
-
-      by : (b : Bool) → is_open steps p.1 ≡ b
-          → not (list_any (is_item_of p.1.checkout p.1.key) (items_made steps) || list_any (is_item_of p.1.checkout p.1.key) (delivered_of (open_packages steps))) ≡ (is_open steps p.1 && not (goes (served_of (waiting_by steps)) p))
-      by true is =
-          let here : Among p.1 (open_packages steps) = subst (Among p.1) (waiting-items steps) (among-map (λ (p : ℕ × Item). p.1) p (waiting_by steps) (filter-among (λ (p : ℕ × Item). is_open steps p.1) p (enumerate_from 1 (packages steps)) among is)) in
-          neither (list_any (is_item_of p.1.checkout p.1.key) (items_made steps)) (list_any (is_item_of p.1.checkout p.1.key) (delivered_of (open_packages steps)))
-          ∙ ap (λ b. is_open steps p.1 && not b)
-          (delivered-any (open_packages steps) p.1 here ∙ ap (λ items. goes_with (oldest_of items) p.1) (sym (waiting-items steps)) ∙ sym (goes-items (waiting_by steps) p))
-      by false is =
-          neither (list_any (is_item_of p.1.checkout p.1.key) (items_made steps)) (list_any (is_item_of p.1.checkout p.1.key) (delivered_of (open_packages steps)))
-          ∙ ap (λ b. b && not (list_any (is_item_of p.1.checkout p.1.key) (delivered_of (open_packages steps)))) is ∙ sym (ap (λ b. b && not (goes (served_of (waiting_by steps)) p)) is)
-
-  pub waiting-delivered : waiting_by (steps ++ s ∷ []) ≡ left_of (waiting_by steps)
-  waiting-delivered =
-      ap (λ ps. filter (λ (p : ℕ × Item). is_open (steps ++ s ∷ []) p.1) (enumerate_from 1 ps)) (packages-same steps s none)
-      ∙ filter-each (λ p. is_open (steps ++ s ∷ []) p.1) (λ p. is_open steps p.1 && not (goes (served_of (waiting_by steps)) p)) (enumerate_from 1 (packages steps)) still
-      ∙ sym (filter-twice (λ p. not (goes (served_of (waiting_by steps)) p)) (λ p. is_open steps p.1) (enumerate_from 1 (packages steps)))
-
-  -- each package, and whether it is open after it
-  closed : (p : ℕ × Item) → Among p (enumerate_from 1 (packages steps))
-      → package_by (steps ++ s ∷ []) p.1 ≡ (if has_number (taken_of (waiting_by steps)) p.0 then closed_of (package_by steps p.1) else package_by steps p.1)
-  closed p among =
-      ap (λ b. let q : Package = record { item = p.1; is_open = b } in q) (still p among) ∙ by (is_open steps p.1) refl
-    where
-      taken : is_open steps p.1 ≡ true → has_number (taken_of (waiting_by steps)) p.0 ≡ goes (served_of (waiting_by steps)) p
-      taken is =
-          let waits = filter-among (λ (p : ℕ × Item). is_open steps p.1) p (enumerate_from 1 (packages steps)) among is in
-          let at : entry_at (taken_of (waiting_by steps)) p.0 ≡ kept_if (λ i. goes (served_of (waiting_by steps)) (p.0, i)) (Some p.1)
-          = entry_at-filter (goes (served_of (waiting_by steps))) (waiting_by steps) (waiting-rise steps) p.0
-          ∙ ap (kept_if (λ i. goes (served_of (waiting_by steps)) (p.0, i))) (entry-among p (waiting_by steps) (waiting-rise steps) waits) in
-          either (goes (served_of (waiting_by steps)) p) at
-        where
-          either : (b : Bool) → entry_at (taken_of (waiting_by steps)) p.0 ≡ cond b (Some p.1) None → has_number (taken_of (waiting_by steps)) p.0 ≡ b
-          either true at = has_number-some (taken_of (waiting_by steps)) p.0 p.1 at
-          either false at = has_number-none (taken_of (waiting_by steps)) p.0 at
-
-      open_test : (b : Bool) → (let q : Package = record { item = p.1; is_open = true && not b } in q) ≡ cond b (closed_of (record { item = p.1; is_open = true })) (record { item = p.1; is_open = true })
-      open_test true = refl
-      open_test false = refl
-
-      closed_test : (b : Bool) → (let q : Package = record { item = p.1; is_open = false } in q) ≡ cond b (closed_of (record { item = p.1; is_open = false })) (record { item = p.1; is_open = false })
-      closed_test true = refl
-      closed_test false = refl
-
-      by : (b : Bool) → is_open steps p.1 ≡ b → (let q : Package = record { item = p.1; is_open = is_open steps p.1 && not (goes (served_of (waiting_by steps)) p) } in q)
-          ≡ (if has_number (taken_of (waiting_by steps)) p.0 then closed_of (package_by steps p.1) else package_by steps p.1)
-      by true is =
-          ap (λ b. let q : Package = record { item = p.1; is_open = b && not (goes (served_of (waiting_by steps)) p) } in q) is
-          ∙ open_test (goes (served_of (waiting_by steps)) p)
-          ∙ ap (λ b. cond b (closed_of (record { item = p.1; is_open = true })) (record { item = p.1; is_open = true })) (sym (taken is))
-          ∙ ap (λ o. cond (has_number (taken_of (waiting_by steps)) p.0) (closed_of (record { item = p.1; is_open = o })) (record { item = p.1; is_open = o })) (sym is)
-      by false is =
-          ap (λ b. let q : Package = record { item = p.1; is_open = b && not (goes (served_of (waiting_by steps)) p) } in q) is
-          ∙ closed_test (has_number (taken_of (waiting_by steps)) p.0)
-          ∙ ap (λ o. cond (has_number (taken_of (waiting_by steps)) p.0) (closed_of (record { item = p.1; is_open = o })) (record { item = p.1; is_open = o })) (sym is)
-
-  pub packages-delivered : packages_by (steps ++ s ∷ []) ≡ close_if (has_number (taken_of (waiting_by steps))) (packages_by steps)
-  packages-delivered =
-      ap (map (package_by (steps ++ s ∷ []))) (packages-same steps s none)
-      ∙ spread 1 (packages steps)
-      ∙ map-each (λ p. package_by (steps ++ s ∷ []) p.1) (λ p. if has_number (taken_of (waiting_by steps)) p.0 then closed_of (package_by steps p.1) else package_by steps p.1) (enumerate_from 1 (packages steps)) closed
-      ∙ through 1 (packages steps)
-    where
-      spread : (from : ℕ) (items : List Item) → map (package_by (steps ++ s ∷ [])) items ≡ map (λ (p : ℕ × Item). package_by (steps ++ s ∷ []) p.1) (enumerate_from from items)
-      spread from [] = refl
-      spread from (i ∷ items) = ap (λ ps. package_by (steps ++ s ∷ []) i ∷ ps) (spread (from + 1) items)
-
-      through : (from : ℕ) (items : List Item)
-          → map (λ (p : ℕ × Item). if has_number (taken_of (waiting_by steps)) p.0 then closed_of (package_by steps p.1) else package_by steps p.1) (enumerate_from from items)
-          ≡ map (λ (p : ℕ × Package). if has_number (taken_of (waiting_by steps)) p.0 then closed_of p.1 else p.1) (enumerate_from from (map (package_by steps) items))
-      through from [] = refl
-      through from (i ∷ items) = ap (λ ps. (if has_number (taken_of (waiting_by steps)) from then closed_of (package_by steps i) else package_by steps i) ∷ ps) (through (from + 1) items)
+    by : (b : Body) → shipment_fits steps b ≡ true → ((request : Request) → b ≡ body.Asked request → ⊥)
+        → ((checkout : RequestId) (customer : ℕ) (lines : List PricedLine) (total : ℕ) → b ≡ body.Confirmed checkout customer lines total → ⊥) → ⊥
+    by (body.Asked request) due not_asked not_paid = not_asked request refl
+    by (body.Confirmed checkout customer lines total) due not_asked not_paid = not_paid checkout customer lines total refl
+    by other due not_asked not_paid = cc

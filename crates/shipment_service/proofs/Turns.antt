@@ -2,7 +2,7 @@
 use Rattle.std.proofs.Common.{◌≡◌, ℕ, ◌+◌, ◌<◌, List, [], ◌∷◌, ◌++◌, Option, length, take, get_or, add-one, refl, ap, sym, ◌∙◌, append-nil, append_assoc}
 use Rattle.std.proofs.Math.Seq.{take-suc}
 use Rattle.market_events.specs.declared.bodies.Item.{Item}
-use Rattle.shipment_service.specs.Waiting.{put_at, group_of, queue_at, groups_of}
+use Rattle.shipment_service.specs.Tables.{put_at, group_of, queue_at, groups_of}
 use Rattle.shipment_service.proofs.Numbers.{put_at-append}
 
 pub groups_of-append : (queues : List (ℕ × List (ℕ × Item))) (ts us : List (ℕ × ℕ)) → groups_of queues (ts ++ us) ≡ groups_of queues ts ++ groups_of queues us

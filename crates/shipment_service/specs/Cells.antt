@@ -1,7 +1,7 @@
 -- The cells of packages, by the table of all packages.
-use Rattle.std.specs.Prelude.{ℕ, ◌+◌, ◌-◌, ◌==◌, List, [], ◌∷◌, Option, Some, None, option_map, codes, map, slice_get, if◌then◌else◌}
+use Rattle.std.specs.Prelude.{ℕ, ◌-◌, ◌==◌, List, Option, None, option_map, codes, map, slice_get}
+use Rattle.std.specs.Prelude.{if◌then◌else◌}
 use Rattle.std.specs.List.{enumerate_from, range_with_len}
-use Rattle.market_events.specs.declared.bodies.Item.{Item}
 use Rattle.market_events.specs.declared.cells.Cell.{Cell}
 use Rattle.market_events.specs.declared.cells.CellName.{CellName}
 use Rattle.market_events.specs.CellNames.{number_name}

@@ -1,5 +1,4 @@
-pub mod Waiting
-pub mod Packed
-pub mod Kept
-pub mod Holding
+pub mod Tables
+pub mod Deliveries
+pub mod Holds
 pub mod Cells

@@ -2,7 +2,7 @@
 
 ghost use Rattle.std.specs.Prelude.{◌≡◌, ◌-◌, ◌++◌, [], ◌∷◌, ◌↔◌, IsTrue, length, take, OnOk, OnErr, IfOk};
 ghost use Rattle.market_events.specs.Requests.{same_id};
-ghost use Rattle.shipment_service.specs.Waiting.{group_len, group_of, behind_of, first_number};
+ghost use Rattle.shipment_service.specs.Tables.{group_len, group_of, behind_of, first_number};
 
 use market_amounts::CheckoutId;
 use market_events::Item;

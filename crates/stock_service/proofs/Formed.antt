@@ -7,25 +7,26 @@ use Rattle.market_amounts.specs.declared.keys.RequestId.{RequestId}
 use Rattle.market_events.specs.declared.bodies.Body.{Body}
 use Rattle.market_events.specs.declared.bodies.Body.TheVariants as body
 use Rattle.market_events.specs.declared.bodies.PricedLine.{PricedLine}
-use Rattle.market_events.specs.declared.links.Link.TheVariants.{Service}
+use Rattle.market_events.specs.declared.links.TheConstants.{STOCK_TO_ORDER}
 use Rattle.market_events.specs.declared.requests.Ask.{Ask}
 use Rattle.market_events.specs.declared.requests.Ask.TheVariants as ask
 use Rattle.market_events.specs.Carts.{is_accepted}
 use Rattle.market_events.specs.Formed.{key_formed, request_id_formed, id_formed, lines_formed, checkout_formed, ask_formed, body_formed, pieces_formed}
 use Rattle.market_events.specs.Links.{same_link}
 use Rattle.market_events.specs.Orders.{is_of}
-use Rattle.market_events.specs.Services.{Role, Follows, RunsFrom, IsRunOf}
+use Rattle.market_events.specs.declared.roles.Role.{Role}
+use Rattle.market_events.specs.Services.{Follows, RunsFrom, IsRunOf}
 use Rattle.market_events.specs.Steps.{Step, Sending, body_on}
 use Rattle.market_events.specs.Stocks.{Reservation, reservation_in, reservations, is_settled}
-use Rattle.market_events.proofs.ListLaws.{and_both}
-use Rattle.market_events.proofs.MadeLaws.{are_formed, answers-formed}
-use Rattle.market_events.proofs.ReservationLaws.{found-is}
-use Rattle.market_events.proofs.SameLaws.{same_key-true}
-use Rattle.market_events.proofs.StepLaws.{fits-parts, run_has, run-push}
-use Rattle.market_events.proofs.StockLaws.{reservations_of, reservations-push}
-use Rattle.market_events.proofs.TotalLaws.{found-passes}
-use Rattle.stock_service.specs.Kept.{stocks_in, stocks_asked, was_stocked, lines_held}
-use Rattle.stock_service.proofs.Steps.{was_stocked-push}
+use Rattle.market_events.proofs.Values.Lists.{and_both}
+use Rattle.market_events.proofs.Shapes.WellFormed.{are_formed, answers-formed}
+use Rattle.market_events.proofs.Steps.Reservations.{found-is}
+use Rattle.market_events.proofs.Values.Same.{same_key-true}
+use Rattle.market_events.proofs.Steps.Taken.{fits-parts, run_has, run-push}
+use Rattle.market_events.proofs.Steps.Pieces.{reservations_of, reservations-push}
+use Rattle.market_events.proofs.Runs.Totals.{found-passes}
+use Rattle.stock_service.specs.Holds.{stocks_in, stocks_asked, was_stocked, lines_held}
+use Rattle.stock_service.proofs.Sums.{was_stocked-push}
 
 -- a well-formed body stocks pieces of a product whose key is well formed
 stocks_formed : (key : ProductKey) (b : Body) → body_formed b ≡ true → stocks_in key b ≡ true → key_formed key ≡ true
@@ -55,19 +56,19 @@ abbrev pub is_checkout_formed : Reservation → Bool
 is_checkout_formed r = checkout_formed r.checkout r.customer r.lines
 
 -- the reservations among what a step makes are of well-formed checkouts
-made_formed : (made : List Sending) → are_formed made ≡ true → list_all is_checkout_formed (filter_map reservation_in (filter_map (body_on (Service 4)) made)) ≡ true
+made_formed : (made : List Sending) → are_formed made ≡ true → list_all is_checkout_formed (filter_map reservation_in (filter_map (body_on STOCK_TO_ORDER) made)) ≡ true
 made_formed [] formed = refl
 made_formed (out ∷ more) formed =
     let both = and_both (body_formed out.1) (are_formed more) formed in
-    on_link (same_link out.0 (Service 4)) out.1 both.0 (made_formed more both.1)
+    on_link (same_link out.0 STOCK_TO_ORDER) out.1 both.0 (made_formed more both.1)
   where
     one : (b : Body) → body_formed b ≡ true → (rest : List Reservation) → list_all is_checkout_formed rest ≡ true → list_all is_checkout_formed (cons_option (reservation_in b) rest) ≡ true
     one (body.StockConfirmed checkout customer lines) formed rest all = rw (formed, all)
     one other formed rest all = all
 
-    on_link : (b : Bool) (out : Body) → body_formed out ≡ true → list_all is_checkout_formed (filter_map reservation_in (filter_map (body_on (Service 4)) more)) ≡ true
-        → list_all is_checkout_formed (filter_map reservation_in (cons_option (if b then Some out else None) (filter_map (body_on (Service 4)) more))) ≡ true
-    on_link true out formed all = one out formed (filter_map reservation_in (filter_map (body_on (Service 4)) more)) all
+    on_link : (b : Bool) (out : Body) → body_formed out ≡ true → list_all is_checkout_formed (filter_map reservation_in (filter_map (body_on STOCK_TO_ORDER) more)) ≡ true
+        → list_all is_checkout_formed (filter_map reservation_in (cons_option (if b then Some out else None) (filter_map (body_on STOCK_TO_ORDER) more))) ≡ true
+    on_link true out formed all = one out formed (filter_map reservation_in (filter_map (body_on STOCK_TO_ORDER) more)) all
     on_link false out formed all = all
 
 -- after a run, each reservation is of a well-formed checkout
@@ -87,6 +88,7 @@ pub record IsHeldFormed (id : RequestId) (lines : List PricedLine) : Type 0 wher
   pub checkout : request_id_formed id ≡ true
   pub all : lines_formed lines ≡ true
 
+-- so is what is held of it
 pub held-formed : (steps : List Step) → IsRunOf Role.Stock steps → (id : RequestId) (lines : List PricedLine) → lines_held steps id ≡ Some lines → IsHeldFormed id lines
 held-formed steps run id lines held = either (is_settled steps id) (find (is_of id) (reservations steps)) refl held
   where

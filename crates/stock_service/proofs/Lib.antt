@@ -1,9 +1,9 @@
-pub mod Tables
 pub mod Acts
-pub mod Steps
-pub mod Joining
+pub mod Tables
+pub mod Sums
 pub mod Formed
-pub mod Touched
-pub mod StockCells
+pub mod Steps
+pub mod StepCells
 pub mod TableCells
-pub mod Covering
+pub mod Values
+pub mod Touches

@@ -1,200 +1,331 @@
--- What one more step makes of what stock keeps.
-use Rattle.std.proofs.Common.{◌≡◌, ℕ, ◌+◌, Bool, true, false, ◌&&◌, ◌||◌, not, nat_lt, List, [], ◌∷◌, ◌++◌, Option, Some, None, filter_map, find, option_map, if◌then◌else◌, refl, ap, sym, ◌∙◌, arith}
-use Rattle.std.specs.List.{list_any}
+-- One more step keeps what stock holds, and makes what is defined.
+use Rattle.std.proofs.Common.{◌≡◌, ℕ, ◌+◌, ◌≤◌, true, false, ◌&&◌, ◌||◌, not, List, [], ◌∷◌, ◌++◌, Option, Some, None, IfSome, filter_map, if◌then◌else◌, Result, Ok, Err, OnOk, refl, ap, sym, subst, ◌∙◌, arith}
+use Rattle.std.proofs.Math.Logic.{∥∥₁_elim}
+use Rattle.std.specs.Coded.{le_prop}
+use Rattle.std.specs.List.{list_all}
 use Rattle.market_amounts.specs.declared.keys.ProductKey.{ProductKey}
 use Rattle.market_amounts.specs.declared.keys.RequestId.{RequestId}
 use Rattle.market_events.specs.declared.bodies.Body.{Body}
 use Rattle.market_events.specs.declared.bodies.Body.TheVariants as body
 use Rattle.market_events.specs.declared.bodies.PayRule.{PayRule}
 use Rattle.market_events.specs.declared.bodies.PricedLine.{PricedLine}
+use Rattle.market_events.specs.declared.bodies.StockRule.{StockRule}
+use Rattle.market_events.specs.declared.changes.Change.{Change}
 use Rattle.market_events.specs.declared.changes.Look.{Look}
-use Rattle.market_events.specs.declared.changes.Look.TheVariants.{Unknown, Gone, Live}
-use Rattle.market_events.specs.declared.links.Link.TheVariants.{Service}
-use Rattle.market_events.specs.declared.replies.Reply.TheVariants as reply
-use Rattle.market_events.specs.declared.replies.Rule.TheVariants as rule
+use Rattle.market_events.specs.declared.links.Link.{Link}
+use Rattle.market_events.specs.declared.links.TheConstants.{STOCK_TO_CART, STOCK_TO_ORDER}
 use Rattle.market_events.specs.declared.requests.Ask.{Ask}
 use Rattle.market_events.specs.declared.requests.Ask.TheVariants as ask
-use Rattle.market_events.specs.Carts.{changes_taken, is_accepted, is_refusal}
+use Rattle.market_events.specs.declared.requests.Request.{Request}
+use Rattle.market_events.specs.Carts.{changes_taken}
 use Rattle.market_events.specs.Copies.{copy_of}
-use Rattle.market_events.specs.Links.{stock_node}
-use Rattle.market_events.specs.Orders.{is_of, is_taken}
+use Rattle.market_events.specs.Orders.{is_taken}
+use Rattle.market_events.specs.Products.{change_in}
 use Rattle.market_events.specs.Requests.{same_id, same_key}
-use Rattle.market_events.specs.Services.{Role, IsRunOf, reserves}
-use Rattle.market_events.specs.Steps.{Step, body_on, told, refused}
-use Rattle.market_events.specs.Stocks.{Reservation, reservation_in, reservations, settles, is_settled, pieces_in, pieces_of, stocked, on_hand, reserved, stock_rows, level_rows, stock_asked, stock_sums}
-use Rattle.market_events.specs.WellFormed.{pieces_max}
-use Rattle.market_events.proofs.ListLaws.{list_any-push, or_false, and_false, and_true}
-use Rattle.market_events.proofs.SameLaws.{same_key-true}
-use Rattle.market_events.proofs.StockLaws.{reservations_of, stocked-push-other, stocked-push-refused}
-use Rattle.market_events.proofs.StockSteps.{waiting_at, waiting_at-same, waiting_at-reserved, waiting_at-settled, reserve-pieces, confirmed-pieces, failed-pieces, stocked-pieces, quiet-pieces}
+use Rattle.market_events.specs.declared.roles.Role.{Role}
+use Rattle.market_events.specs.Services.{IsRunOf, fits, reactions, reserves, is_known, stock_fits, change_fits}
+use Rattle.market_events.specs.Standing.{Stands, CanTake, step_of, with_step}
+use Rattle.market_events.specs.Steps.{Step, body_on}
+use Rattle.market_events.specs.Stocks.{StockSums, Reservation, reservation_in, pieces_of, first_some, line_refusal, reserve_rows, stock_asked, stock_taken_rows, stock_sums, on_hand}
+use Rattle.market_events.proofs.Values.Lists.{and_both, not_true}
+use Rattle.market_events.proofs.Steps.Reservations.{is_customers, is_customers_with}
+use Rattle.market_events.proofs.Runs.Standing.{reactions-fit}
+use Rattle.market_events.proofs.Steps.Taken.{fits-parts, changes_taken-push}
+use Rattle.market_events.proofs.Runs.Stock.{reserved-le-on_hand, pieces_of-free, answers-stock, lines_formed-rise, checkout_formed-lines}
+use Rattle.market_events.proofs.Steps.Stock.{waiting_at, no_reservations, confirmed-fits, failed-fits, confirmed-pieces, failed-pieces}
+use Rattle.cart_replica.specs.Copy.{look_at, IsCopyOf}
+use Rattle.cart_replica.proofs.Taking.{copied_still}
 use Rattle.stock_service.specs.declared.levels.Act.TheVariants.{Reserve, Sell, Release}
-use Rattle.stock_service.specs.Kept.{amounts_by, stocks_in, was_stocked, lines_held}
-use Rattle.stock_service.specs.Levels.{Amounts, amounts_after, can_stock}
+use Rattle.stock_service.specs.declared.service.Stocks.{Stocks}
+use Rattle.stock_service.specs.Holds.{Holds}
+use Rattle.stock_service.specs.Tables.{lines_at, sums_at, amounts_at, has_at}
+use Rattle.stock_service.specs.Amounts.{Amounts, amounts_after, can_stock}
+use Rattle.stock_service.proofs.Sums.{IsQuiet, lines_in, lines_held-is, quiet-amounts, quiet-lines, unstocked-there, body-quiet, reserved-amounts, reserved-there, reserved-lines, settled-lines, confirmed-amounts, failed-amounts, Stocked, stocked-by, asked-quiet, stocks-other}
 
--- the lines of the reservation that waits
-abbrev pub lines_in : Option Reservation → Option (List PricedLine)
-lines_in o = option_map (λ (r : Reservation). r.lines) o
+-- the tables have the sums of the steps
+pub sums_same : (stocks : Stocks) (steps : List Step) → Holds stocks steps → sums_at stocks.copy stocks.levels ≡ stock_sums steps
+sums_same stocks steps kept =
+    λ i. record { look = λ key. kept.copied key i; on_hand = λ key. (kept.each key i).on_hand; reserved = λ key. (kept.each key i).reserved }
 
-pub lines_held-is : (steps : List Step) (id : RequestId) → lines_held steps id ≡ lines_in (waiting_at steps id)
-lines_held-is steps id = either (is_settled steps id) (find (is_of id) (reservations steps))
-  where
-    either : (b : Bool) (o : Option Reservation) → (if b then None else option_map (λ (r : Reservation). r.lines) o) ≡ lines_in (if b then None else o)
-    either true o = refl
-    either false o = refl
+-- what is made for an input that fits
+pub makes : (steps : List Step) (from : Link) (b : Body) → fits Role.Stock steps from b ≡ true → reactions Role.Stock steps from b ≡ stock_taken_rows (stock_sums steps) b
+makes steps from b fit = reactions-fit Role.Stock steps from b fit ∙ answers-stock steps from b
 
-pub was_stocked-push : (steps : List Step) (s : Step) (key : ProductKey) → was_stocked (steps ++ s ∷ []) key ≡ (was_stocked steps key || (is_accepted s && stocks_in key s.body))
-was_stocked-push steps s key = list_any-push (λ (s : Step). is_accepted s && stocks_in key s.body) steps s
+-- and by the tables
+pub makes_by : (stocks : Stocks) (steps : List Step) → Holds stocks steps → (from : Link) (b : Body) → fits Role.Stock steps from b ≡ true
+    → stock_taken_rows (sums_at stocks.copy stocks.levels) b ≡ reactions Role.Stock steps from b
+makes_by stocks steps kept from b fit = ap (λ sums. stock_taken_rows sums b) (sums_same stocks steps kept) ∙ sym (makes steps from b fit)
 
--- amounts with these numbers
-pub amounts : {a b c d : ℕ} → a ≡ c → b ≡ d → (let left : Amounts = record { on_hand = a; reserved = b } in left ≡ record { on_hand = c; reserved = d })
-amounts e f = λ i. record { on_hand = e i; reserved = f i }
-
--- a step that makes no reservation, settles none and stocks nothing
-pub record IsQuiet (steps : List Step) (s : Step) : Type 0 where
-  pub none : reservations_of s ≡ []
-  pub quiet : (id : RequestId) → settles id s.body ≡ false
-  pub same : (key : ProductKey) → stocked (steps ++ s ∷ []) key ≡ stocked steps key
-  pub unstocked : (key : ProductKey) → (is_accepted s && stocks_in key s.body) ≡ false
-
-module _ (steps : List Step) (s : Step) where
-  pub quiet-amounts : IsQuiet steps s → (key : ProductKey) → amounts_by (steps ++ s ∷ []) key ≡ amounts_by steps key
-  quiet-amounts q key = let both = quiet-pieces steps s q.none q.quiet q.same key in amounts both.0 both.1
-
-  -- no entry more
-  pub unstocked-there : (key : ProductKey) → (is_accepted s && stocks_in key s.body) ≡ false → was_stocked (steps ++ s ∷ []) key ≡ was_stocked steps key
-  unstocked-there key none = was_stocked-push steps s key ∙ ap (λ b. was_stocked steps key || b) none ∙ or_false (was_stocked steps key)
-
-  pub quiet-lines : IsQuiet steps s → (id : RequestId) → lines_held (steps ++ s ∷ []) id ≡ lines_held steps id
-  quiet-lines q id = lines_held-is (steps ++ s ∷ []) id ∙ ap lines_in (waiting_at-same steps s id q.none (q.quiet id)) ∙ sym (lines_held-is steps id)
-
--- a body that stocks nothing
-pub stocks-other : (s : Step) (key : ProductKey) → stocks_in key s.body ≡ false → (is_accepted s && stocks_in key s.body) ≡ false
-stocks-other s key none = ap (λ b. is_accepted s && b) none ∙ and_false (is_accepted s)
-
--- a step with a body that settles and stocks nothing, and makes no reservation
-pub body-quiet : (steps : List Step) (s : Step) (b : Body) → s.body ≡ b → reservations_of s ≡ [] → ((id : RequestId) → settles id b ≡ false) → ((key : ProductKey) → pieces_in key b ≡ 0) → ((key : ProductKey) → stocks_in key b ≡ false)
-    → IsQuiet steps s
-body-quiet steps s b is none quiet nothing unstocked = record {
-  none = none;
-  quiet = λ id. ap (settles id) is ∙ quiet id;
-  same = λ key. stocked-push-other steps s key (ap (pieces_in key) is ∙ nothing key);
-  unstocked = λ key. stocks-other s key (ap (stocks_in key) is ∙ unstocked key);
+-- a step that changes none of the tables
+pub kept_quiet : (stocks : Stocks) (steps : List Step) (s : Step) → Holds stocks steps → IsQuiet steps s
+    → (now : List (ProductKey × Look)) → IsCopyOf now (changes_taken (steps ++ s ∷ [])) → Holds (record stocks { copy = now }) (steps ++ s ∷ [])
+kept_quiet stocks steps s kept q now copied = record {
+  copied = copied;
+  each = λ key. kept.each key ∙ sym (quiet-amounts steps s q key);
+  there = λ key. kept.there key ∙ sym (unstocked-there steps s key (q.unstocked key));
+  lines = λ id. kept.lines id ∙ sym (quiet-lines steps s q id);
 }
 
--- a reservation is made
-module _ (steps : List Step) (s : Step) (run : IsRunOf Role.Stock steps) (checkout : RequestId) (customer : ℕ) (lines : List PricedLine)
-    (is : s.body ≡ body.Reserve checkout customer lines) (made : s.made ≡ (Service 4, body.StockConfirmed checkout customer lines) ∷ []) (new : is_taken reserves steps checkout ≡ false) where
-  pub reserved-amounts : (key : ProductKey) → amounts_by (steps ++ s ∷ []) key ≡ amounts_after Reserve (pieces_of key lines) (amounts_by steps key)
-  reserved-amounts key = let both = reserve-pieces steps s run checkout customer lines is made new key in amounts both.0 both.1
+module _ (stocks : Stocks) (steps : List Step) (from : Link) where
+  -- a change was taken
+  pub kept_changed : (key : ProductKey) (version : ℕ) (change : Change) → Holds stocks steps
+      → (now : List (ProductKey × Look)) → IsCopyOf now (changes_taken steps ++ record { key = key; version = version; change = change } ∷ [])
+      → Holds (record stocks { copy = now }) (with_step Role.Stock steps from (body.Changed key version change))
+  kept_changed key version change kept now copied =
+      let b = body.Changed key version change in
+      let s = step_of Role.Stock steps from (body.Changed key version change) in
+      kept_quiet stocks steps s kept
+      (body-quiet steps s (body.Changed key version change) refl (no_reservations s (answers-stock steps from (body.Changed key version change))) (λ id. refl) (λ key. refl) (λ key. refl))
+      now (subst (IsCopyOf now) (sym (changes_taken-push steps s)) copied)
 
-  pub reserved-there : (key : ProductKey) → was_stocked (steps ++ s ∷ []) key ≡ was_stocked steps key
-  reserved-there key = unstocked-there steps s key (stocks-other s key (ap (stocks_in key) is))
+  -- a request was taken that stocks nothing
+  pub kept_asked : (id : RequestId) (asks : Ask) → Holds stocks steps → ((key : ProductKey) (pieces : ℕ) → asks ≡ ask.Stock key pieces → ⊥)
+      → Holds stocks (with_step Role.Stock steps from (body.Asked (record { id = id; ask = asks })))
+  kept_asked id asks kept other =
+      let s = step_of Role.Stock steps from (body.Asked (record { id = id; ask = asks })) in
+      kept_quiet stocks steps s kept (asked-quiet steps s id asks refl (answers-stock steps from (body.Asked (record { id = id; ask = asks }))) other) stocks.copy
+      (copied_still stocks.copy steps s kept.copied refl)
 
-  pub reserved-lines : (id : RequestId) → lines_held (steps ++ s ∷ []) id ≡ (if same_id checkout id then Some lines else lines_held steps id)
-  reserved-lines id =
-      lines_held-is (steps ++ s ∷ []) id
-      ∙ ap lines_in (waiting_at-reserved steps s (record { checkout = checkout; customer = customer; lines = lines }) run
-      (ap (λ m. filter_map reservation_in (filter_map (body_on (Service 4)) m)) made) (λ id. ap (settles id) is) new id)
-      ∙ either (same_id checkout id)
-      ∙ ap (λ (o : Option (List PricedLine)). if same_id checkout id then Some lines else o) (sym (lines_held-is steps id))
-    where
-      either : (b : Bool) → lines_in (if b then Some (record { checkout = checkout; customer = customer; lines = lines }) else waiting_at steps id) ≡ (if b then Some lines else lines_in (waiting_at steps id))
-      either true = refl
-      either false = refl
-
--- a reservation is settled
-module _ (steps : List Step) (s : Step) (checkout : RequestId) (none : reservations_of s ≡ []) (settle : (id : RequestId) → settles id s.body ≡ same_id checkout id) where
-  pub settled-lines : (id : RequestId) → lines_held (steps ++ s ∷ []) id ≡ (if same_id checkout id then None else lines_held steps id)
-  settled-lines id =
-      lines_held-is (steps ++ s ∷ []) id
-      ∙ ap lines_in (waiting_at-settled steps s checkout none settle id)
-      ∙ either (same_id checkout id)
-      ∙ ap (λ (o : Option (List PricedLine)). if same_id checkout id then None else o) (sym (lines_held-is steps id))
-    where
-      either : (b : Bool) → lines_in (if b then None else waiting_at steps id) ≡ (if b then None else lines_in (waiting_at steps id))
-      either true = refl
-      either false = refl
-
-module _ (steps : List Step) (s : Step) (run : IsRunOf Role.Stock steps) (checkout : RequestId) (r : Reservation) (made : s.made ≡ []) (waits : waiting_at steps checkout ≡ Some r) where
-  pub confirmed-amounts : (customer : ℕ) (lines : List PricedLine) (total : ℕ) → s.body ≡ body.Confirmed checkout customer lines total
-      → (key : ProductKey) → amounts_by (steps ++ s ∷ []) key ≡ amounts_after Sell (pieces_of key r.lines) (amounts_by steps key)
-  confirmed-amounts customer lines total is key = let all = confirmed-pieces steps s run checkout customer lines total r is made waits key in amounts all.0 all.1
-
-  pub failed-amounts : (customer : ℕ) (reason : PayRule) → s.body ≡ body.Failed checkout customer reason
-      → (key : ProductKey) → amounts_by (steps ++ s ∷ []) key ≡ amounts_after Release (pieces_of key r.lines) (amounts_by steps key)
-  failed-amounts customer reason is key = let all = failed-pieces steps s run checkout customer reason r is made waits key in amounts all.0 all.1
-
--- pieces are stocked, or not
-module _ (steps : List Step) (s : Step) (run : IsRunOf Role.Stock steps) (id : RequestId) (k : ProductKey) (pieces : ℕ)
-    (is : s.body ≡ body.Asked (record { id = id; ask = ask.Stock k pieces })) where
-  -- what one more request for stock leaves
-  pub record Stocked (can : Bool) : Type 0 where
-    pub each : (key : ProductKey) → amounts_by (steps ++ s ∷ []) key ≡ (if same_key k key && can then (let was = amounts_by steps k in record was { on_hand = was.on_hand + pieces }) else amounts_by steps key)
-    pub there : (key : ProductKey) → was_stocked (steps ++ s ∷ []) key ≡ (was_stocked steps key || (same_key k key && can))
-    pub lines : (checkout : RequestId) → lines_held (steps ++ s ∷ []) checkout ≡ lines_held steps checkout
-
-  -- it was refused
-  refused_stocked : is_accepted s ≡ false → reservations_of s ≡ [] → Stocked false
-  refused_stocked refused none =
-      let q : IsQuiet steps s = record {
-        none = none;
-        quiet = λ id. ap (settles id) is;
-        same = λ key. stocked-push-refused steps s key refused;
-        unstocked = λ key. ap (λ b. b && stocks_in key s.body) refused;
-      } in record {
-        each = λ key. quiet-amounts steps s q key ∙ unless (same_key k key) (amounts_by steps key);
-        there = λ key. unstocked-there steps s key (q.unstocked key) ∙ none_more (was_stocked steps key) (same_key k key);
-        lines = quiet-lines steps s q;
+  -- a request for stock was taken
+  pub kept_stock : (id : RequestId) (k : ProductKey) (pieces : ℕ) → IsRunOf Role.Stock steps → Holds stocks steps
+      → (now : List (ProductKey × Amounts))
+      → ((key : ProductKey) → amounts_at now key ≡ (if same_key k key && can_stock (look_at stocks.copy k) pieces (amounts_at stocks.levels k).on_hand then (let was = amounts_at stocks.levels k in record was { on_hand = was.on_hand + pieces }) else amounts_at stocks.levels key))
+      → ((key : ProductKey) → has_at now key ≡ (has_at stocks.levels key || (same_key k key && can_stock (look_at stocks.copy k) pieces (amounts_at stocks.levels k).on_hand)))
+      → Holds (record stocks { levels = now }) (with_step Role.Stock steps from (body.Asked (record { id = id; ask = ask.Stock k pieces })))
+  kept_stock id k pieces run kept now each there =
+      let s = step_of Role.Stock steps from (body.Asked (record { id = id; ask = ask.Stock k pieces })) in
+      let stocked : Stocked steps s run id k pieces refl (can_stock (copy_of (changes_taken steps) k) pieces (on_hand steps k))
+      = stocked-by steps s run id k pieces refl (copy_of (changes_taken steps) k) (answers-stock steps from (body.Asked (record { id = id; ask = ask.Stock k pieces }))) in
+      let can : can_stock (look_at stocks.copy k) pieces (amounts_at stocks.levels k).on_hand ≡ can_stock (copy_of (changes_taken steps) k) pieces (on_hand steps k)
+      = λ i. can_stock (kept.copied k i) pieces (kept.each k i).on_hand in
+      record {
+        copied = copied_still stocks.copy steps s kept.copied refl;
+        each = λ key. each key ∙ (λ i. if same_key k key && can i then (let was = kept.each k i in record was { on_hand = was.on_hand + pieces }) else kept.each key i) ∙ sym (stocked.each key);
+        there = λ key. there key ∙ (λ i. kept.there key i || (same_key k key && can i)) ∙ sym (stocked.there key);
+        lines = λ checkout. kept.lines checkout ∙ sym (stocked.lines checkout);
       }
+
+  -- a reservation was refused
+  pub kept_refused : (checkout : RequestId) (customer : ℕ) (lines : List PricedLine) (refusal : ProductKey × StockRule) → Holds stocks steps → first_some (line_refusal (sums_at stocks.copy stocks.levels)) lines ≡ Some refusal
+      → Holds stocks (with_step Role.Stock steps from (body.Reserve checkout customer lines))
+  kept_refused checkout customer lines refusal kept refused =
+      let s = step_of Role.Stock steps from (body.Reserve checkout customer lines) in
+      let made : s.made ≡ (STOCK_TO_CART, body.ReserveFailed checkout refusal.0 refusal.1) ∷ []
+      = answers-stock steps from (body.Reserve checkout customer lines) ∙ ap (reserve_rows checkout customer lines) (ap (λ sums. first_some (line_refusal sums) lines) (sym (sums_same stocks steps kept)) ∙ refused) in
+      kept_quiet stocks steps s kept
+      (body-quiet steps s (body.Reserve checkout customer lines) refl (ap (λ m. filter_map reservation_in (filter_map (body_on STOCK_TO_ORDER) m)) made) (λ id. refl) (λ key. refl) (λ key. refl))
+      stocks.copy (copied_still stocks.copy steps s kept.copied refl)
+
+  -- a reservation was made
+  pub kept_reserved : (checkout : RequestId) (customer : ℕ) (lines : List PricedLine) → IsRunOf Role.Stock steps → fits Role.Stock steps from (body.Reserve checkout customer lines) ≡ true → Holds stocks steps
+      → first_some (line_refusal (sums_at stocks.copy stocks.levels)) lines ≡ None
+      → (now : List (ProductKey × Amounts)) (also : List (RequestId × List PricedLine))
+      → ((key : ProductKey) → amounts_at now key ≡ amounts_after Reserve (pieces_of key lines) (amounts_at stocks.levels key))
+      → ((key : ProductKey) → has_at now key ≡ has_at stocks.levels key)
+      → ((id : RequestId) → lines_at also id ≡ (if same_id checkout id then Some lines else lines_at stocks.held id))
+      → Holds (record stocks { levels = now; held = also }) (with_step Role.Stock steps from (body.Reserve checkout customer lines))
+  kept_reserved checkout customer lines run fit kept accepted now also each there at =
+      let s = step_of Role.Stock steps from (body.Reserve checkout customer lines) in
+      let made : s.made ≡ (STOCK_TO_ORDER, body.StockConfirmed checkout customer lines) ∷ []
+      = answers-stock steps from (body.Reserve checkout customer lines) ∙ ap (reserve_rows checkout customer lines) (ap (λ sums. first_some (line_refusal sums) lines) (sym (sums_same stocks steps kept)) ∙ accepted) in
+      let both = and_both (not (is_taken reserves steps checkout)) (list_all (λ (line : PricedLine). is_known (copy_of (changes_taken steps) line.key)) lines) (fits-parts Role.Stock steps from (body.Reserve checkout customer lines) fit).due in
+      let new = not_true (is_taken reserves steps checkout) both.0 in
+      record {
+        copied = copied_still stocks.copy steps s kept.copied refl;
+        each = λ key. each key ∙ ap (amounts_after Reserve (pieces_of key lines)) (kept.each key) ∙ sym (reserved-amounts steps s run checkout customer lines refl made new key);
+        there = λ key. there key ∙ kept.there key ∙ sym (reserved-there steps s run checkout customer lines refl made new key);
+        lines = λ id. at id ∙ ap (λ (o : Option (List PricedLine)). if same_id checkout id then Some lines else o) (kept.lines id) ∙ sym (reserved-lines steps s run checkout customer lines refl made new id);
+      }
+
+-- a reservation that waits
+pub record Waits (steps : List Step) (checkout : RequestId) : Type 0 where
+  pub reservation : Reservation
+  pub is : waiting_at steps checkout ≡ Some reservation
+
+-- where the lines of a payment are those of a reservation, it waits
+waits_with : (steps : List Step) (checkout : RequestId) (customer : ℕ) (lines : List PricedLine) (o : Option Reservation) → waiting_at steps checkout ≡ o → is_customers_with customer lines o ≡ true → Waits steps checkout
+waits_with steps checkout customer lines None is fit = cc
+waits_with steps checkout customer lines (Some r) is fit = record { reservation = r; is = is }
+
+-- where the customer of a failure is that of a reservation, it waits
+waits_for : (steps : List Step) (checkout : RequestId) (customer : ℕ) (o : Option Reservation) → waiting_at steps checkout ≡ o → is_customers customer o ≡ true → Waits steps checkout
+waits_for steps checkout customer None is fit = cc
+waits_for steps checkout customer (Some r) is fit = record { reservation = r; is = is }
+
+module _ (steps : List Step) (from : Link) (run : IsRunOf Role.Stock steps) (checkout : RequestId) (customer : ℕ) where
+  -- a checkout that was paid waits
+  pub confirmed_waits : (lines : List PricedLine) (total : ℕ) → fits Role.Stock steps from (body.Confirmed checkout customer lines total) ≡ true → Waits steps checkout
+  confirmed_waits lines total fit =
+      waits_with steps checkout customer lines (waiting_at steps checkout) refl
+      (sym (confirmed-fits steps run checkout customer lines total) ∙ (fits-parts Role.Stock steps from (body.Confirmed checkout customer lines total) fit).due)
+
+  -- and so does that of a checkout whose payment failed
+  pub failed_waits : (reason : PayRule) → fits Role.Stock steps from (body.Failed checkout customer reason) ≡ true → Waits steps checkout
+  failed_waits reason fit =
+      waits_for steps checkout customer (waiting_at steps checkout) refl
+      (sym (failed-fits steps run checkout customer reason) ∙ (fits-parts Role.Stock steps from (body.Failed checkout customer reason) fit).due)
+
+-- the lines that the table has are those of the reservation that waits
+module _ (stocks : Stocks) (steps : List Step) (kept : Holds stocks steps) (checkout : RequestId) where
+  pub at_waiting : (w : Waits steps checkout) → lines_at stocks.held checkout ≡ Some w.reservation.lines
+  at_waiting w = kept.lines checkout ∙ lines_held-is steps checkout ∙ ap lines_in w.is
+
+  -- so the lines that are found are those of the reservation
+  same_lines : (w : Waits steps checkout) (lines : List PricedLine) → lines_at stocks.held checkout ≡ Some lines → w.reservation.lines ≡ lines
+  same_lines w lines found = one (sym (at_waiting w) ∙ found)
     where
-      unless : (b : Bool) (now : Amounts) → now ≡ (if b && false then (let was = amounts_by steps k in record was { on_hand = was.on_hand + pieces }) else now)
-      unless true now = refl
-      unless false now = refl
+      one : {A : Type 0} {x y : A} → Some x ≡ Some y → x ≡ y
+      one e = cc
 
-      none_more : (a b : Bool) → a ≡ (a || (b && false))
-      none_more true b = refl
-      none_more false true = refl
-      none_more false false = refl
+  module _ (from : Link) (run : IsRunOf Role.Stock steps) (lines : List PricedLine) (found : lines_at stocks.held checkout ≡ Some lines) (customer : ℕ) where
+    -- the pieces of a reservation that is settled are reserved
+    pub confirmed_can : (l : List PricedLine) (total : ℕ) → fits Role.Stock steps from (body.Confirmed checkout customer l total) ≡ true → (key : ProductKey) → pieces_of key lines ≤ (amounts_at stocks.levels key).reserved
+    confirmed_can l total fit key =
+        let w = confirmed_waits steps from run checkout customer l total fit in
+        let s = step_of Role.Stock steps from (body.Confirmed checkout customer l total) in
+        let all = confirmed-pieces steps s run checkout customer l total w.reservation refl (answers-stock steps from (body.Confirmed checkout customer l total)) w.is key in
+        omega (arith, all.2, ap (pieces_of key) (same_lines w lines found), ap (λ (a : Amounts). a.reserved) (kept.each key))
 
-  -- it was accepted
-  accepted_stocked : (n : ℕ) → s.made ≡ told stock_node id (reply.Stocked n) ∷ [] → Stocked true
-  accepted_stocked n made = record {
-    each = λ key. let both = stocked-pieces steps s run id k pieces n is made key in amounts both.0 both.1 ∙ more key (same_key k key) refl;
-    there = λ key. was_stocked-push steps s key ∙ ap (λ b. was_stocked steps key || (b && stocks_in key s.body)) accepted
-        ∙ ap (λ b. was_stocked steps key || stocks_in key b) is ∙ ap (λ b. was_stocked steps key || b) (sym (and_true (same_key k key)));
-    lines = λ checkout. lines_held-is (steps ++ s ∷ []) checkout ∙ ap lines_in (waiting_at-same steps s checkout none (ap (settles checkout) is)) ∙ sym (lines_held-is steps checkout);
-  }
+    pub failed_can : (reason : PayRule) → fits Role.Stock steps from (body.Failed checkout customer reason) ≡ true → (key : ProductKey) → pieces_of key lines ≤ (amounts_at stocks.levels key).reserved
+    failed_can reason fit key =
+        let w = failed_waits steps from run checkout customer reason fit in
+        let s = step_of Role.Stock steps from (body.Failed checkout customer reason) in
+        let all = failed-pieces steps s run checkout customer reason w.reservation refl (answers-stock steps from (body.Failed checkout customer reason)) w.is key in
+        omega (arith, all.2, ap (pieces_of key) (same_lines w lines found), ap (λ (a : Amounts). a.reserved) (kept.each key))
+
+-- a checkout was settled
+module _ (stocks : Stocks) (steps : List Step) (kept : Holds stocks steps) (from : Link) (run : IsRunOf Role.Stock steps)
+    (checkout : RequestId) (customer : ℕ) (now : List (ProductKey × Amounts)) (left : List (RequestId × List PricedLine))
+    (there : (key : ProductKey) → has_at now key ≡ has_at stocks.levels key) (at : (id : RequestId) → lines_at left id ≡ (if same_id checkout id then None else lines_at stocks.held id)) where
+  -- its payment was made
+  pub kept_confirmed : (lines : List PricedLine) (total : ℕ) → fits Role.Stock steps from (body.Confirmed checkout customer lines total) ≡ true
+      → IfSome (lines_at stocks.held checkout) (λ lines. (key : ProductKey) → amounts_at now key ≡ amounts_after Sell (pieces_of key lines) (amounts_at stocks.levels key))
+      → Holds (record stocks { levels = now; held = left }) (with_step Role.Stock steps from (body.Confirmed checkout customer lines total))
+  kept_confirmed lines total fit each =
+      let w = confirmed_waits steps from run checkout customer lines total fit in
+      let s = step_of Role.Stock steps from (body.Confirmed checkout customer lines total) in
+      let made = answers-stock steps from (body.Confirmed checkout customer lines total) in
+      let pieces = subst (λ (o : Option (List PricedLine)). IfSome o (λ lines. (key : ProductKey) → amounts_at now key ≡ amounts_after Sell (pieces_of key lines) (amounts_at stocks.levels key))) (at_waiting stocks steps kept checkout w) each in
+      record {
+        copied = copied_still stocks.copy steps s kept.copied refl;
+        each = λ key. pieces key ∙ ap (amounts_after Sell (pieces_of key w.reservation.lines)) (kept.each key) ∙ sym (confirmed-amounts steps s run checkout w.reservation made w.is customer lines total refl key);
+        there = λ key. there key ∙ kept.there key ∙ sym (unstocked-there steps s key (stocks-other s key refl));
+        lines = λ id. at id ∙ ap (λ (o : Option (List PricedLine)). if same_id checkout id then None else o) (kept.lines id) ∙ sym (settled-lines steps s checkout (no_reservations s made) (λ id. refl) id);
+      }
+
+  -- its payment failed
+  pub kept_failed : (reason : PayRule) → fits Role.Stock steps from (body.Failed checkout customer reason) ≡ true
+      → IfSome (lines_at stocks.held checkout) (λ lines. (key : ProductKey) → amounts_at now key ≡ amounts_after Release (pieces_of key lines) (amounts_at stocks.levels key))
+      → Holds (record stocks { levels = now; held = left }) (with_step Role.Stock steps from (body.Failed checkout customer reason))
+  kept_failed reason fit each =
+      let w = failed_waits steps from run checkout customer reason fit in
+      let s = step_of Role.Stock steps from (body.Failed checkout customer reason) in
+      let made = answers-stock steps from (body.Failed checkout customer reason) in
+      let pieces = subst (λ (o : Option (List PricedLine)). IfSome o (λ lines. (key : ProductKey) → amounts_at now key ≡ amounts_after Release (pieces_of key lines) (amounts_at stocks.levels key))) (at_waiting stocks steps kept checkout w) each in
+      record {
+        copied = copied_still stocks.copy steps s kept.copied refl;
+        each = λ key. pieces key ∙ ap (amounts_after Release (pieces_of key w.reservation.lines)) (kept.each key) ∙ sym (failed-amounts steps s run checkout w.reservation made w.is customer reason refl key);
+        there = λ key. there key ∙ kept.there key ∙ sym (unstocked-there steps s key (stocks-other s key refl));
+        lines = λ id. at id ∙ ap (λ (o : Option (List PricedLine)). if same_id checkout id then None else o) (kept.lines id) ∙ sym (settled-lines steps s checkout (no_reservations s made) (λ id. refl) id);
+      }
+
+-- what follows of two and three things that success brings follows of it
+pub on_both : {T E P Q S : Type 0} (r : Result T E) → (P → Q → S) → OnOk r P → OnOk r Q → OnOk r S
+on_both (Ok x) f p q = f p q
+on_both (Err e) f p q = tt
+
+-- the same of three things
+pub on_three : {T E P Q R S : Type 0} (r : Result T E) → (P → Q → R → S) → OnOk r P → OnOk r Q → OnOk r R → OnOk r S
+on_three (Ok x) f p q s = f p q s
+on_three (Err e) f p q s = tt
+
+-- what fits and is kept, of a body that is another one
+pub fits_as : (steps : List Step) (from : Link) (b c : Body) → b ≡ c → fits Role.Stock steps from b ≡ true → fits Role.Stock steps from c ≡ true
+fits_as steps from b c is fit = ap (λ b. fits Role.Stock steps from b) (sym is) ∙ fit
+
+-- the same of what the service holds
+pub kept_as : (stocks : Stocks) (steps : List Step) (from : Link) (b c : Body) → b ≡ c
+    → Holds stocks (with_step Role.Stock steps from c) → Holds stocks (with_step Role.Stock steps from b)
+kept_as stocks steps from b c is kept = subst (λ (b : Body). Holds stocks (with_step Role.Stock steps from b)) (sym is) kept
+
+-- what the tables answer is what is made
+pub made_as : (stocks : Stocks) (steps : List Step) → Holds stocks steps → (from : Link) (b c : Body) → b ≡ c → fits Role.Stock steps from b ≡ true
+    → stock_taken_rows (sums_at stocks.copy stocks.levels) c ≡ reactions Role.Stock steps from b
+made_as stocks steps kept from b c is fit = sym (ap (stock_taken_rows (sums_at stocks.copy stocks.levels)) is) ∙ makes_by stocks steps kept from b fit
+
+-- a request of another kind is answered by nothing
+pub no_answer : (sums : StockSums) (id : RequestId) (asks : Ask) → ((key : ProductKey) (pieces : ℕ) → asks ≡ ask.Stock key pieces → ⊥) → ((key : ProductKey) → asks ≡ ask.Level key → ⊥) → [] ≡ stock_asked sums id asks
+no_answer sums id (ask.Stock key pieces) stock level = absurd (stock key pieces refl)
+no_answer sums id (ask.Level key) stock level = absurd (level key refl)
+no_answer sums id other stock level = refl
+
+-- a body of another kind does not fit
+other_kind : (steps : List Step) (b : Body)
+    → ((key : ProductKey) (version : ℕ) (change : Change) → b ≡ body.Changed key version change → ⊥)
+    → ((checkout : RequestId) (customer : ℕ) (lines : List PricedLine) → b ≡ body.Reserve checkout customer lines → ⊥)
+    → ((checkout : RequestId) (customer : ℕ) (lines : List PricedLine) (total : ℕ) → b ≡ body.Confirmed checkout customer lines total → ⊥)
+    → ((checkout : RequestId) (customer : ℕ) (reason : PayRule) → b ≡ body.Failed checkout customer reason → ⊥)
+    → ((request : Request) → b ≡ body.Asked request → ⊥) → stock_fits steps b ≡ false
+other_kind steps (body.Changed key version change) changed reserve confirmed failed asked = absurd (changed key version change refl)
+other_kind steps (body.Reserve checkout customer lines) changed reserve confirmed failed asked = absurd (reserve checkout customer lines refl)
+other_kind steps (body.Confirmed checkout customer lines total) changed reserve confirmed failed asked = absurd (confirmed checkout customer lines total refl)
+other_kind steps (body.Failed checkout customer reason) changed reserve confirmed failed asked = absurd (failed checkout customer reason refl)
+other_kind steps (body.Asked request) changed reserve confirmed failed asked = absurd (asked request refl)
+other_kind steps other changed reserve confirmed failed asked = refl
+
+-- what stock can take
+module _ (stocks : Stocks) (from : Link) (b : Body) (can : CanTake Role.Stock Holds stocks from b) where
+  -- a change that comes is due
+  pub changed_due : (key : ProductKey) (version : ℕ) (change : Change) → b ≡ body.Changed key version change
+      → (steps : List Step) → Stands Role.Stock Holds stocks steps → fits Role.Stock steps from b ≡ true → change_fits (look_at stocks.copy key) version change ≡ true
+  changed_due key version change is steps stands fit =
+      ap (λ look. change_fits look version change) (stands.held.copied key)
+      ∙ (fits-parts Role.Stock steps from (body.Changed key version change) (fits_as steps from b (body.Changed key version change) is fit)).due
+
+  -- the pieces of lines that are not refused are free
+  pub reserve_free : (checkout : RequestId) (customer : ℕ) (lines : List PricedLine) → b ≡ body.Reserve checkout customer lines
+      → first_some (line_refusal (sums_at stocks.copy stocks.levels)) lines ≡ None
+      → (k : ProductKey) → (amounts_at stocks.levels k).reserved + pieces_of k lines ≤ (amounts_at stocks.levels k).on_hand
+  reserve_free checkout customer lines is accepted k = ∥∥₁_elim can le_prop (λ it.
+      let formed = (fits-parts Role.Stock it.0 from (body.Reserve checkout customer lines) (fits_as it.0 from b (body.Reserve checkout customer lines) is it.2)).formed in
+      let rise = lines_formed-rise lines (checkout_formed-lines checkout customer lines formed) in
+      omega (
+        arith,
+        pieces_of-free (sums_at stocks.copy stocks.levels) k lines accepted rise,
+        reserved-le-on_hand it.0 it.1.run k,
+        ap (λ (a : Amounts). a.reserved) (it.1.held.each k),
+        ap (λ (a : Amounts). a.on_hand) (it.1.held.each k),
+      ))
+
+  -- the pieces of a checkout that is settled are reserved
+  pub settle_confirmed : (checkout : RequestId) (customer : ℕ) (lines : List PricedLine) (total : ℕ) → b ≡ body.Confirmed checkout customer lines total
+      → IfSome (lines_at stocks.held checkout) (λ lines. (k : ProductKey) → pieces_of k lines ≤ (amounts_at stocks.levels k).reserved)
+  settle_confirmed checkout customer lines total is = either (lines_at stocks.held checkout) refl
     where
-      none : reservations_of s ≡ []
-      none = ap (λ m. filter_map reservation_in (filter_map (body_on (Service 4)) m)) made
+      either : (o : Option (List PricedLine)) → lines_at stocks.held checkout ≡ o → IfSome o (λ lines. (k : ProductKey) → pieces_of k lines ≤ (amounts_at stocks.levels k).reserved)
+      either None found = tt
+      either (Some l) found = λ k. ∥∥₁_elim can le_prop (λ it.
+          confirmed_can stocks it.0 it.1.held checkout from it.1.run l found customer lines total
+          (fits_as it.0 from b (body.Confirmed checkout customer lines total) is it.2) k)
 
-      accepted : is_accepted s ≡ true
-      accepted = ap (λ m. not (list_any is_refusal m)) made
-
-      more : (key : ProductKey) (b : Bool) → same_key k key ≡ b
-          → (let now : Amounts = record { on_hand = on_hand steps key + (if b then pieces else 0); reserved = reserved steps key } in now)
-          ≡ (if b && true then (let was = amounts_by steps k in record was { on_hand = was.on_hand + pieces }) else amounts_by steps key)
-      more key true same = ap (λ (key : ProductKey). let now : Amounts = record { on_hand = on_hand steps key + pieces; reserved = reserved steps key } in now) (sym (same_key-true k key same))
-      more key false other = let e : on_hand steps key + 0 ≡ on_hand steps key = omega arith in amounts e refl
-
-  -- what is answered says which
-  pub stocked-by : (look : Look) → s.made ≡ stock_rows id pieces look (on_hand steps k) → Stocked (can_stock look pieces (on_hand steps k))
-  stocked-by Unknown made = refused_stocked (ap (λ m. not (list_any is_refusal m)) made) (ap (λ m. filter_map reservation_in (filter_map (body_on (Service 4)) m)) made)
-  stocked-by (Gone v) made = refused_stocked (ap (λ m. not (list_any is_refusal m)) made) (ap (λ m. filter_map reservation_in (filter_map (body_on (Service 4)) m)) made)
-  stocked-by (Live v price freight) made = either (nat_lt pieces_max (on_hand steps k + pieces)) made
+  -- and so are those of one whose payment failed
+  pub settle_failed : (checkout : RequestId) (customer : ℕ) (reason : PayRule) → b ≡ body.Failed checkout customer reason
+      → IfSome (lines_at stocks.held checkout) (λ lines. (k : ProductKey) → pieces_of k lines ≤ (amounts_at stocks.levels k).reserved)
+  settle_failed checkout customer reason is = either (lines_at stocks.held checkout) refl
     where
-      either : (over : Bool) → s.made ≡ (if over then refused stock_node id rule.StockOver else told stock_node id (reply.Stocked (on_hand steps k + pieces)) ∷ []) → Stocked (not over)
-      either true made = refused_stocked (ap (λ m. not (list_any is_refusal m)) made) (ap (λ m. filter_map reservation_in (filter_map (body_on (Service 4)) m)) made)
-      either false made = accepted_stocked (on_hand steps k + pieces) made
+      either : (o : Option (List PricedLine)) → lines_at stocks.held checkout ≡ o → IfSome o (λ lines. (k : ProductKey) → pieces_of k lines ≤ (amounts_at stocks.levels k).reserved)
+      either None found = tt
+      either (Some l) found = λ k. ∥∥₁_elim can le_prop (λ it.
+          failed_can stocks it.0 it.1.held checkout from it.1.run l found customer reason
+          (fits_as it.0 from b (body.Failed checkout customer reason) is it.2) k)
 
--- any other request
-pub asked-quiet : (steps : List Step) (s : Step) (id : RequestId) (asks : Ask) → s.body ≡ body.Asked (record { id = id; ask = asks }) → s.made ≡ stock_asked (stock_sums steps) id asks
-    → ((key : ProductKey) (pieces : ℕ) → asks ≡ ask.Stock key pieces → ⊥) → IsQuiet steps s
-asked-quiet steps s id (ask.Stock key pieces) is made other = absurd (other key pieces refl)
-asked-quiet steps s id (ask.Level key) is made other = body-quiet steps s (body.Asked (record { id = id; ask = ask.Level key })) is (rows (copy_of (changes_taken steps) key) made) (λ id. refl) (λ key. refl) (λ key. refl)
-  where
-    rows : (look : Look) → s.made ≡ level_rows id look (on_hand steps key) (reserved steps key) → reservations_of s ≡ []
-    rows Unknown made = ap (λ m. filter_map reservation_in (filter_map (body_on (Service 4)) m)) made
-    rows (Gone v) made = ap (λ m. filter_map reservation_in (filter_map (body_on (Service 4)) m)) made
-    rows (Live v price freight) made = ap (λ m. filter_map reservation_in (filter_map (body_on (Service 4)) m)) made
-asked-quiet steps s id asks is made other = body-quiet steps s (body.Asked (record { id = id; ask = asks })) is (ap (λ m. filter_map reservation_in (filter_map (body_on (Service 4)) m)) made) (λ id. refl) (λ key. refl) (λ key. refl)
+  -- a body of another kind does not fit
+  pub no_other : ((key : ProductKey) (version : ℕ) (change : Change) → b ≡ body.Changed key version change → ⊥)
+      → ((checkout : RequestId) (customer : ℕ) (lines : List PricedLine) → b ≡ body.Reserve checkout customer lines → ⊥)
+      → ((checkout : RequestId) (customer : ℕ) (lines : List PricedLine) (total : ℕ) → b ≡ body.Confirmed checkout customer lines total → ⊥)
+      → ((checkout : RequestId) (customer : ℕ) (reason : PayRule) → b ≡ body.Failed checkout customer reason → ⊥)
+      → ((request : Request) → b ≡ body.Asked request → ⊥) → ⊥
+  no_other changed reserve confirmed failed asked = ∥∥₁_elim can (λ x y. absurd x) (λ it.
+      let kind = (fits-parts Role.Stock it.0 from b it.2).due in
+      let none = other_kind it.0 b changed reserve confirmed failed asked in
+      cc)

@@ -1,4 +1,4 @@
-pub mod Levels
-pub mod Kept
-pub mod Holding
+pub mod Amounts
+pub mod Tables
+pub mod Holds
 pub mod Cells

@@ -1,34 +1,82 @@
-//! Names and values of the cells of stock.
+//! Names and values of the cells of stock: one of each product that it knows, one of each level, and one of
+//! what each checkout holds.
 
-ghost use Rattle.std.specs.Prelude.{◌≡◌, ◌+◌, ◌≤◌, ◌++◌, ◌==◌, [], ◌∷◌, if◌then◌else◌, List, length, map, codes, IfOk, IfSome, OnOk, true, unwrap_or};
+ghost use Rattle.std.specs.Prelude.{◌≡◌, ◌+◌, ◌≤◌, ◌++◌, ◌==◌, [], ◌∷◌, if◌then◌else◌, true, List, Some};
+ghost use Rattle.std.specs.Prelude.{length, map, codes, IfOk, IfSome};
 ghost use Rattle.std.specs.List.{IsDistinct, join_with_byte};
 ghost use Rattle.std.specs.Option.{option_or};
+ghost use Rattle.market_amounts.specs.declared.keys.ProductKey.{ProductKey};
+ghost use Rattle.market_amounts.specs.declared.keys.RequestId.{RequestId};
 ghost use Rattle.market_events.specs.declared.bodies.PricedLine.{PricedLine};
 ghost use Rattle.market_events.specs.declared.cells.CellName.{CellName};
-ghost use Rattle.market_events.specs.CellLists.{Within, key_cell, put_some, put_all, last_value, entry_cells_of};
+ghost use Rattle.market_events.specs.CellLists.{Within, put_all, last_value, entry_cells_of};
 ghost use Rattle.market_events.specs.Cells.{held_line, look_cells};
 ghost use Rattle.market_events.specs.Copies.{ProductChange};
+ghost use Rattle.market_events.specs.Formed.{key_formed, request_id_formed};
 ghost use Rattle.market_events.specs.Standing.{same_name, is_named};
 ghost use Rattle.market_events.specs.WellFormed.{IsKey, IsRequestId};
 ghost use Rattle.cart_replica.specs.Copy.{IsCopyOf};
-ghost use Rattle.cart_replica.specs.CopyCells.{copy_cells, AreKeysFormed};
-ghost use Rattle.stock_service.specs.Kept.{lines_at};
-ghost use Rattle.stock_service.specs.Cells.{copy_name, level_name, held_name, asked_names, is_touched, pieces_text, levels_in, held_in, level_cells, held_cells};
+ghost use Rattle.cart_replica.specs.CopyCells.{copy_cells, AreKeysFormed, copy_table};
+ghost use Rattle.stock_service.specs.Cells.{copy_name, level_name, held_name, asked_names};
+ghost use Rattle.stock_service.specs.Cells.{is_touched, pieces_text, levels_in, held_in};
+ghost use Rattle.stock_service.specs.Cells.{level_cells, held_cells};
 
+use crate::held_lines::HeldLines;
 use crate::level::Level;
+use crate::levels::Levels;
 use cart_replica::ProductCopy;
 use market_amounts::{CheckoutId, List, ProductKey};
 use market_events::{
     Ask, Cell, CellList, CellName, NameList, PricedLine, id_name, id_named, key_name, key_named,
 };
 use std::alloc::{AllocError, Global};
-use std::collections::BTreeMap;
 
 const COPY: &[u8] = b"copy";
 
 const HELD: &[u8] = b"held";
 
 const STOCK: &[u8] = b"stock";
+
+// The cells of the three tables, by rising name.
+pub fn cells_of(
+    alloc: Global,
+    copy: &ProductCopy,
+    levels: &Levels,
+    held: &HeldLines,
+) -> Result<Vec<Cell>, AllocError>
+    ensures { IfOk result (λ cells. cells.items
+        ≡ entry_cells_of (put_all []
+        (copy_cells copy_table copy.now ++ level_cells levels.now ++ held_cells held.now))) }
+{
+    let mut cells = CellList::new(alloc);
+    copy.put_cells(alloc, COPY, &mut cells)?;
+    levels.put_cells(alloc, &mut cells)?;
+    held.put_cells(alloc, &mut cells)?;
+    cells.into_cells()
+}
+
+// The value at a name, none where it is the name of no cell.
+pub fn value_named(
+    alloc: Global,
+    copy: &ProductCopy,
+    levels: &Levels,
+    held: &HeldLines,
+    name: &CellName,
+) -> Result<Option<List<u8>>, AllocError>
+    ensures { IfOk result (λ value. (changes : List ProductChange) → IsCopyOf copy.now changes
+        → AreKeysFormed changes → Within IsKey (levels_in levels.now) → Within IsRequestId (held_in held.now)
+        → value ≡ option_or (last_value name.now (held_cells held.now)) (option_or
+        (last_value name.now (level_cells levels.now))
+        (last_value name.now (look_cells copy_table changes)))) }
+{
+    if let Some(value) = held.cell_value(alloc, name)? {
+        return Ok(Some(value));
+    }
+    if let Some(value) = levels.cell_value(alloc, name)? {
+        return Ok(Some(value));
+    }
+    copy.cell_value(alloc, COPY, name)
+}
 
 // The name of the cell of what is known of a product.
 fn copy_name(alloc: Global, key: ProductKey) -> Result<CellName, AllocError>
@@ -38,21 +86,24 @@ fn copy_name(alloc: Global, key: ProductKey) -> Result<CellName, AllocError>
 }
 
 // The name of the cell of a level.
-fn level_name(alloc: Global, key: ProductKey) -> Result<CellName, AllocError>
+pub fn level_name(alloc: Global, key: ProductKey) -> Result<CellName, AllocError>
     ensures { IfOk result (λ name. name ≡ level_name key) }
 {
     key_name(alloc, STOCK, key)
 }
 
-// The name of the cell of what a checkout holds.
-fn held_name(alloc: Global, checkout: CheckoutId) -> Result<CellName, AllocError>
-    ensures { IfOk result (λ name. name ≡ held_name checkout) }
+// The product of the level whose cell has the name.
+pub fn level_named(name: &CellName) -> Option<ProductKey>
+    ensures named { IfSome result (λ key. name.now ≡ level_name key) }
+    ensures formed { IfSome result (λ key. key_formed key ≡ true) }
+    ensures found { (key : ProductKey) → key_formed key ≡ true → name.now ≡ level_name key
+        → result ≡ Some key }
 {
-    id_name(alloc, HELD, checkout)
+    key_named(STOCK, name)
 }
 
 // The text of a level.
-fn level_text(alloc: Global, level: Level) -> Result<List<u8>, AllocError>
+pub fn level_text(alloc: Global, level: Level) -> Result<List<u8>, AllocError>
     ensures { IfOk result (λ text. text ≡ pieces_text level.on_hand level.reserved) }
 {
     let on_hand = level.on_hand();
@@ -61,48 +112,21 @@ fn level_text(alloc: Global, level: Level) -> Result<List<u8>, AllocError>
     Ok(List::from_vec(text.into_bytes()))
 }
 
-// The text of the level of a product, none where it has none.
-fn level_shown(
-    alloc: Global,
-    levels: &BTreeMap<ProductKey, Level>,
-    key: ProductKey,
-) -> Result<Option<List<u8>>, AllocError>
-    ensures { IfOk result (λ text. text ≡ levels_in levels.now.entries key) }
+// The name of the cell of what a checkout holds.
+pub fn held_name(alloc: Global, checkout: CheckoutId) -> Result<CellName, AllocError>
+    ensures { IfOk result (λ name. name ≡ held_name checkout) }
 {
-    match levels.get(&key) {
-        Some(level) => Ok(Some(level_text(alloc, *level)?)),
-        None => Ok(None),
-    }
+    id_name(alloc, HELD, checkout)
 }
 
-// Puts the cell of the level of a product.
-fn put_level(
-    alloc: Global,
-    levels: &BTreeMap<ProductKey, Level>,
-    key: ProductKey,
-    cells: &mut CellList,
-) -> Result<(), AllocError>
-    ensures { OnOk result (cells.new ≡ put_some cells.old (key_cell level_name (levels_in levels.now.entries) key)) }
+// The checkout that holds what the cell with the name tells.
+pub fn held_named(name: &CellName) -> Option<CheckoutId>
+    ensures named { IfSome result (λ id. name.now ≡ held_name id) }
+    ensures formed { IfSome result (λ id. request_id_formed id ≡ true) }
+    ensures found { (id : RequestId) → request_id_formed id ≡ true → name.now ≡ held_name id
+        → result ≡ Some id }
 {
-    let Some(text) = level_shown(alloc, levels, key)? else {
-        return Ok(());
-    };
-    let name = level_name(alloc, key)?;
-    cells.put(name, text)
-}
-
-// Puts the cells of all levels.
-fn put_levels(
-    alloc: Global,
-    levels: &BTreeMap<ProductKey, Level>,
-    cells: &mut CellList,
-) -> Result<(), AllocError>
-    ensures { OnOk result (cells.new ≡ put_all cells.old (level_cells levels.now.entries)) }
-{
-    for key in levels.keys() {
-        put_level(alloc, levels, *key, cells)?;
-    }
-    Ok(())
+    id_named(HELD, name)
 }
 
 // What stands before a line of a list.
@@ -124,7 +148,7 @@ fn line_text(alloc: Global, line: &PricedLine, separator: &str) -> Result<Vec<u8
 }
 
 // The text of lines, with `;` between them.
-fn lines_text(alloc: Global, lines: &[PricedLine]) -> Result<List<u8>, AllocError>
+pub fn lines_text(alloc: Global, lines: &[PricedLine]) -> Result<List<u8>, AllocError>
     ensures { IfOk result (λ text. text ≡ join_with_byte 59 (map held_line lines.now)) }
 {
     let mut text = Vec::new(alloc);
@@ -135,124 +159,14 @@ fn lines_text(alloc: Global, lines: &[PricedLine]) -> Result<List<u8>, AllocErro
     Ok(List::from_vec(text))
 }
 
-// The text of what a checkout holds, none where it holds nothing.
-fn held_shown(
-    alloc: Global,
-    held: &BTreeMap<CheckoutId, List<PricedLine>>,
-    checkout: CheckoutId,
-) -> Result<Option<List<u8>>, AllocError>
-    ensures { IfOk result (λ text. text ≡ held_in held.now.entries checkout) }
-{
-    match held.get(&checkout) {
-        Some(lines) => Ok(Some(lines_text(alloc, lines.as_slice())?)),
-        None => Ok(None),
-    }
-}
-
-// Puts the cell of what a checkout holds.
-fn put_checkout(
-    alloc: Global,
-    held: &BTreeMap<CheckoutId, List<PricedLine>>,
-    checkout: CheckoutId,
-    cells: &mut CellList,
-) -> Result<(), AllocError>
-    ensures { OnOk result (cells.new ≡ put_some cells.old (key_cell held_name (held_in held.now.entries) checkout)) }
-{
-    let Some(text) = held_shown(alloc, held, checkout)? else {
-        return Ok(());
-    };
-    let name = held_name(alloc, checkout)?;
-    cells.put(name, text)
-}
-
-// Puts the cells of all that is held.
-fn put_held(
-    alloc: Global,
-    held: &BTreeMap<CheckoutId, List<PricedLine>>,
-    cells: &mut CellList,
-) -> Result<(), AllocError>
-    ensures { OnOk result (cells.new ≡ put_all cells.old (held_cells held.now.entries)) }
-{
-    for checkout in held.keys() {
-        put_checkout(alloc, held, *checkout, cells)?;
-    }
-    Ok(())
-}
-
-// The cells of the three tables, by rising name.
-pub fn cells_of(
-    alloc: Global,
-    copy: &ProductCopy,
-    levels: &BTreeMap<ProductKey, Level>,
-    held: &BTreeMap<CheckoutId, List<PricedLine>>,
-) -> Result<Vec<Cell>, AllocError>
-    ensures { IfOk result (λ cells. cells.items
-        ≡ entry_cells_of (put_all [] (copy_cells (codes "copy") copy.now ++ level_cells levels.now.entries ++ held_cells held.now.entries))) }
-{
-    let mut cells = CellList::new(alloc);
-    copy.put_cells(alloc, COPY, &mut cells)?;
-    put_levels(alloc, levels, &mut cells)?;
-    put_held(alloc, held, &mut cells)?;
-    cells.into_cells()
-}
-
-// The value of the cell of a level that has the name.
-fn level_named(
-    alloc: Global,
-    levels: &BTreeMap<ProductKey, Level>,
-    name: &CellName,
-) -> Result<Option<List<u8>>, AllocError>
-    ensures { IfOk result (λ value. Within IsKey (levels_in levels.now.entries) → value ≡ last_value name.now (level_cells levels.now.entries)) }
-{
-    let Some(key) = key_named(STOCK, name) else {
-        return Ok(None);
-    };
-    level_shown(alloc, levels, key)
-}
-
-// The value of the cell of what a checkout holds that has the name.
-fn held_named(
-    alloc: Global,
-    held: &BTreeMap<CheckoutId, List<PricedLine>>,
-    name: &CellName,
-) -> Result<Option<List<u8>>, AllocError>
-    ensures { IfOk result (λ value. Within IsRequestId (held_in held.now.entries) → value ≡ last_value name.now (held_cells held.now.entries)) }
-{
-    let Some(checkout) = id_named(HELD, name) else {
-        return Ok(None);
-    };
-    held_shown(alloc, held, checkout)
-}
-
-// The value at a name, none where it is the name of no cell.
-pub fn value_named(
-    alloc: Global,
-    copy: &ProductCopy,
-    levels: &BTreeMap<ProductKey, Level>,
-    held: &BTreeMap<CheckoutId, List<PricedLine>>,
-    name: &CellName,
-) -> Result<Option<List<u8>>, AllocError>
-    ensures { IfOk result (λ value. (changes : List ProductChange) → IsCopyOf copy.now changes → AreKeysFormed changes
-        → Within IsKey (levels_in levels.now.entries) → Within IsRequestId (held_in held.now.entries)
-        → value ≡ option_or (last_value name.now (held_cells held.now.entries))
-        (option_or (last_value name.now (level_cells levels.now.entries)) (last_value name.now (look_cells (codes "copy") changes)))) }
-{
-    if let Some(value) = held_named(alloc, held, name)? {
-        return Ok(Some(value));
-    }
-    if let Some(value) = level_named(alloc, levels, name)? {
-        return Ok(Some(value));
-    }
-    copy.cell_value(alloc, COPY, name)
-}
-
 // The names of the cells that lines of a checkout touch.
 pub fn names_of(
     alloc: Global,
     checkout: CheckoutId,
     lines: &[PricedLine],
 ) -> Result<Vec<CellName>, AllocError>
-    ensures named { IfOk result (λ names. (name : CellName) → is_named names.items name ≡ is_touched checkout lines.now name) }
+    ensures named { IfOk result (λ names.
+        (name : CellName) → is_named names.items name ≡ is_touched checkout lines.now name) }
     ensures differ { IfOk result (λ names. IsDistinct same_name names.items) }
     ensures few { IfOk result (λ names. length names.items ≤ length lines.now + 1) }
 {
@@ -282,23 +196,5 @@ pub fn asked_names(alloc: Global, ask: Ask) -> Result<Vec<CellName>, AllocError>
             Ok(vec![in alloc; name]?)
         }
         _ => Ok(Vec::new(alloc)),
-    }
-}
-
-// The names of the cells that a checkout touches when it is settled.
-pub fn held_names(
-    alloc: Global,
-    held: &BTreeMap<CheckoutId, List<PricedLine>>,
-    checkout: CheckoutId,
-) -> Result<Vec<CellName>, AllocError>
-    ensures named { IfOk result (λ names. IfSome (lines_at held.now.entries checkout) (λ lines. (name : CellName) → is_named names.items name ≡ is_touched checkout lines name)) }
-    ensures only { IfOk result (λ names. (name : CellName) → is_named names.items name ≡ true
-        → is_touched checkout (unwrap_or (lines_at held.now.entries checkout) []) name ≡ true) }
-    ensures differ { IfOk result (λ names. IsDistinct same_name names.items) }
-    ensures few { IfOk result (λ names. IfSome (lines_at held.now.entries checkout) (λ lines. length names.items ≤ length lines + 1)) }
-{
-    match held.get(&checkout) {
-        Some(lines) => names_of(alloc, checkout, lines.as_slice()),
-        None => Ok(Vec::new(alloc)),
     }
 }

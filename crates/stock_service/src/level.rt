@@ -2,12 +2,26 @@
 
 ghost use Rattle.std.specs.Prelude.{◌≡◌, ◌+◌, ◌-◌, ◌≤◌};
 
+use std::marker::Model;
+
 /// How many pieces of a product are on hand, and how many of them are reserved.
 #[derive(Clone, Copy, Debug, PartialEq, Eq)]
 pub struct Level {
     on_hand: u32,
     reserved: u32,
-    ghost kept: { reserved ≤ on_hand },
+}
+
+impl Model for Level {
+    ghost use Rattle.std.specs.Prelude.{◌≤◌};
+    ghost use Rattle.stock_service.specs.Amounts.{Amounts};
+
+    ghost Value = { Amounts };
+
+    ghost view = { λ level. record { on_hand = level.on_hand; reserved = level.reserved } };
+
+    ghost invariant = { λ level. level.reserved ≤ level.on_hand };
+
+    ghost inverse = { λ amounts. record { on_hand = amounts.on_hand; reserved = amounts.reserved } };
 }
 
 impl Level {
@@ -29,10 +43,10 @@ impl Level {
         self.on_hand
     }
 
-    /// The pieces that are reserved.
+    /// The pieces that are reserved, which are no more than those on hand.
     pub fn reserved(self) -> u32
         ensures value { result ≡ self.reserved }
-        ensures kept { result ≤ self.on_hand }
+        ensures covered { result ≤ self.on_hand }
     {
         self.reserved
     }

@@ -1,6 +1,6 @@
-//! Writes or reads texts of bodies many times over, for `bench/text_times.py`. `write N`, `read N` or `nothing N`: standard
-//! input has a text on each line; each becomes a body, and its text is written, or read back, N times, or neither. It
-//! prints how many bytes that were.
+//! Writes or reads texts of bodies many times over, for `bench/text_times.py`. `write N`, `read N` or
+//! `nothing N`: standard input has a text on each line; each becomes a body, and its text is written, or read
+//! back, N times, or neither. It prints how many bytes that were.
 #![tactic(auto)]
 
 ghost use Rattle.market_events.specs.WellFormed.{IsBody};

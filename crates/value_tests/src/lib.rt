@@ -1,5 +1,5 @@
-//! The tests of values, of their texts and of the records of a workload, which stand in a crate of their own, since a crate with
-//! tests is proved twice.
+//! The tests of values, of their texts and of the records of a workload, which stand in a crate of their own,
+//! since a crate with tests is proved twice.
 #![tactic(auto)]
 
 #[cfg(test)]

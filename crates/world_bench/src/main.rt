@@ -1,6 +1,6 @@
-//! Plays requests on a world, for `bench/world_times.py`. Standard input has the text of a request on each line; each is
-//! given to its lane, and then the oldest event is offered until none is outstanding. It prints how many requests were given
-//! and how many events were offered.
+//! Plays requests on a world, for `bench/world_times.py`. Standard input has the text of a request on each
+//! line; each is given to its lane, and then the oldest event is offered until none is outstanding. It prints
+//! how many requests were given and how many events were offered.
 #![tactic(auto)]
 
 use market_history::Step;

@@ -13,7 +13,7 @@ use Rattle.market_events.specs.declared.replies.Reply.{Reply}
 use Rattle.market_events.specs.declared.requests.Request.{Request}
 use Rattle.market_events.specs.Links.{service_by_ask}
 use Rattle.market_events.specs.Requests.{lane_of}
-use Rattle.market_events.proofs.SameLaws.{same_id-self}
+use Rattle.market_events.proofs.Values.Same.{same_id-self}
 use Rattle.market_history.specs.Blocks.{Arrival, services, with_what, next_event, grow}
 use Rattle.market_history.specs.Once.{requests_given, with_id, reply_of}
 use Rattle.market_history.specs.Stamps.{clock_before, stamp_of}

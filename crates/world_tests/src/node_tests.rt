@@ -34,7 +34,9 @@ fn give(lane: &mut LaneCore, request: &Request) -> Result<Give, AllocError>
     requires own { lane_of request.now.id ≡ 7 }
     requires small { IsSmall lane.old }
     ensures grew { GrewLittle lane.old lane.new }
-    ensures asked { IfOk result (λ give. give ≡ Give.Asked → lane.new ≡ with_entries lane.old (grow lane.old.node lane.old.entries (Arrival.Gives request.now))) }
+    ensures asked { IfOk result (λ give. give ≡ Give.Asked
+        → lane.new
+        ≡ with_entries lane.old (grow lane.old.node lane.old.entries (Arrival.Gives request.now))) }
     ensures other { IfOk result (λ give. give ≢ Give.Asked → lane.new ≡ lane.old) }
 {
     lane.give(request)
@@ -64,7 +66,8 @@ fn ask(lane: &mut LaneCore, request: &Request) -> Result<bool, AllocError>
     requires own { lane_of request.now.id ≡ 7 }
     requires small { IsSmall lane.old }
     ensures grew { GrewLittle lane.old lane.new }
-    ensures awaited { IfOk result (λ asked. asked ≡ true → is_awaited lane.new.entries request.now.id ≡ true) }
+    ensures awaited { IfOk result (λ asked. asked ≡ true
+        → is_awaited lane.new.entries request.now.id ≡ true) }
 {
     if give(lane, request)? != Give::Asked {
         return Ok(false);
@@ -96,7 +99,8 @@ fn fill(rt: &impl Abort, lane: &mut LaneCore) -> Result<(), AllocError>
     Ok(())
 }
 
-// Gives the lane a request that it does not ask, and says what the lane did. The journal keeps its entries, so many.
+// Gives the lane a request that it does not ask, and says what the lane did. The journal keeps its entries,
+// so many.
 fn turn_away(
     rt: &impl Abort,
     lane: &mut LaneCore,

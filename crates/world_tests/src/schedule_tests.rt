@@ -7,10 +7,10 @@ ghost use Rattle.market_history.specs.Schedule.{IsPlayable};
 
 use crate::table_tests;
 use market_amounts::RequestId;
-use market_events::{Link, Node, Offer, Reply, Request, What};
+use market_events::{LINKS, Link, Node, Offer, Reply, Request, What, link_at};
 use market_history::{Give, Outcome, Step};
 use market_texts::{read_reply, read_request};
-use market_world::{LINKS, World, link_at, oldest, run_schedule, settled};
+use market_world::{World, oldest, run_schedule, settled};
 use std::alloc::AllocError;
 use std::process::Abort;
 
@@ -166,7 +166,8 @@ fn check_line_waits(rt: &(impl Abort + AllocGlobal), world: &mut World) {
     expect_answer(rt, world, 15, id, &short);
 }
 
-// Offers the first events of all links, each three times, in an order that begins at this link and goes on by leaps.
+// Offers the first events of all links, each three times, in an order that begins at this link and goes on by
+// leaps.
 fn offer_all(rt: &impl Abort, world: &mut World, begin: u32)
     requires { begin < 272 }
 {

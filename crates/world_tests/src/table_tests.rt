@@ -1,4 +1,5 @@
-//! Small schedules on a world, with the tables before and after it is settled; the values are worked out by hand.
+//! Small schedules on a world, with the tables before and after it is settled; the values are worked out by
+//! hand.
 
 use crate::schedule_tests::{
     Case, answer, expect_answer, expect_cells, give, offer, play, reply_of, request_of, settle,

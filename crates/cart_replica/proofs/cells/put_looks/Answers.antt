@@ -4,7 +4,7 @@ use Rattle.std.specs.Map.Iter.{deref}
 use Rattle.std.proofs.lemmas.Map.Iter.{iter_end}
 use Rattle.market_events.specs.CellLists.{put_each, key_cell}
 use Rattle.market_events.specs.CellNames.{key_name}
-use Rattle.market_events.proofs.KeyedCells.{put_each-all}
+use Rattle.market_events.proofs.NamedCells.Keyed.{put_each-all}
 use Rattle.cart_replica.specs.CopyCells.{text_in}
 use Rattle.cart_replica.proofs.cells.put_looks.Goals as goal
 

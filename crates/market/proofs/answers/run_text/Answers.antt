@@ -1,5 +1,5 @@
 use Rattle.std.proofs.Common.{take}
-use Rattle.market.proofs.Lines.{next_line, all_lines}
+use Rattle.market.proofs.Kept.Lines.{next_line, all_lines}
 use Rattle.market.proofs.answers.run_text.Goals as goal
 
 pub loop-request-preserved : goal.loop-request-preserved

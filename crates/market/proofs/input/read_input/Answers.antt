@@ -1,5 +1,5 @@
 use Rattle.std.proofs.Common.{◌<◌, vec_len, arith, rules}
-use Rattle.market.proofs.Taking.{takes_none}
+use Rattle.market.proofs.Reading.Taken.{takes_none}
 use Rattle.market.proofs.input.read_input.Goals as goal
 
 pub loop-input-init : goal.loop-input-init

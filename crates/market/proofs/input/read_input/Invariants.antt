@@ -1,5 +1,5 @@
 use Rattle.std.proofs.Common.{◌≤◌, ◌<◌, ◌-◌, vec_len}
-use Rattle.market.proofs.Taking.{HasTaken}
+use Rattle.market.proofs.Reading.Taken.{HasTaken}
 use Rattle.market.proofs.input.read_input.Given as goal
 
 abbrev pub invariant-loop-input : goal.invariant-loop-input

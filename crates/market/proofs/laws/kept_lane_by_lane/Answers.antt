@@ -1,5 +1,5 @@
 -- The requests of one lane, by an induction over what was given.
-use Rattle.market.proofs.Kept.{of_lane-kept_of}
+use Rattle.market.proofs.Kept.LaneByLane.{of_lane-kept_of}
 use Rattle.market.proofs.laws.kept_lane_by_lane.Goals as goal
 
 pub returns : goal.returns

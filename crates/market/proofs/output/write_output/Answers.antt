@@ -1,5 +1,5 @@
 use Rattle.std.proofs.Common.{◌-◌, ◌≤◌, length, drop, take, length-take, length-drop, ◌∙◌, arith}
-use Rattle.market.proofs.Appending.{appends_more, take_part}
+use Rattle.market.proofs.Reading.Appended.{appends_more, take_part}
 use Rattle.market.proofs.output.write_output.Goals as goal
 
 pub loop-at-preserved : goal.loop-at-preserved

@@ -1,7 +1,7 @@
 use Rattle.std.proofs.Common.{◌≡◌, [], ◌∷◌, ◌++◌, Some, None, sym, ap, ap₂, ◌∙◌}
 use Rattle.std.proofs.lemmas.List.{map-append}
 use Rattle.csv.specs.Records.{field_at, fields_of}
-use Rattle.market.proofs.Fields.{take_field, take_all_fields}
+use Rattle.market.proofs.Reading.Fields.{take_field, take_all_fields}
 use Rattle.market.proofs.records.fields.Goals as goal
 
 pub loop-field-preserved : goal.loop-field-preserved

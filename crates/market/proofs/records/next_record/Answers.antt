@@ -1,5 +1,5 @@
 use Rattle.std.proofs.Common.{inl}
-use Rattle.market.proofs.Reading.{read_one}
+use Rattle.market.proofs.Reading.Records.{read_one}
 use Rattle.market.proofs.records.next_record.Goals as goal
 
 pub returns : goal.returns

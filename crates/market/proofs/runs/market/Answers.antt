@@ -1,4 +1,4 @@
-use Rattle.market.proofs.Ending.{done_or_memory}
+use Rattle.market.proofs.Reading.Ended.{done_or_memory}
 use Rattle.market.proofs.runs.market.Goals as goal
 
 pub returns-in-Some-Run-clause-complete : goal.returns-in-Some-Run-clause-complete

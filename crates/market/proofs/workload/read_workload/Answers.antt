@@ -3,7 +3,7 @@ use Rattle.std.proofs.lemmas.Result.{err_from_is_err_and}
 use Rattle.std.proofs.lemmas.List.Elements.{All-nil, All-push}
 use Rattle.market_events.specs.WellFormed.{IsRequest}
 use Rattle.csv.specs.Records.{fields_of}
-use Rattle.market.proofs.Workloads.{begins, goes_on, tells_fault, still_less, ends}
+use Rattle.market.proofs.Reading.Workloads.{begins, goes_on, tells_fault, still_less, ends}
 use Rattle.market.proofs.workload.read_workload.Goals as goal
 
 pub records-init : goal.records-init

@@ -1,7 +1,7 @@
 use Rattle.std.proofs.Common.{◌≡◌, ◌-◌, vec_len}
 use Rattle.std.specs.List.{All}
 use Rattle.market_events.specs.WellFormed.{IsRequest}
-use Rattle.market.proofs.Workloads.{StandsBehind}
+use Rattle.market.proofs.Reading.Workloads.{StandsBehind}
 use Rattle.market.proofs.workload.read_workload.Given as goal
 
 -- the requests so far, in front of those of the records that are left, are those of the input, and well formed

@@ -1,6 +1,6 @@
 use Rattle.std.proofs.Common.{arith}
-use Rattle.market_events.proofs.CellWords.{basket_word, read_text, read_ok, read_all, if_some}
-use Rattle.market_events.proofs.FormedLaws.{key_decides}
+use Rattle.market_events.proofs.NamedCells.Spelled.{basket_word, read_text, read_ok, read_all, if_some}
+use Rattle.market_events.proofs.Values.Formed.{key_decides}
 use Rattle.market_events.proofs.cell_names.basket_read.Goals as goal
 
 pub returns-clause-is : goal.returns-clause-is

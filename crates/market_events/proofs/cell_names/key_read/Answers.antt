@@ -1,5 +1,5 @@
-use Rattle.market_events.proofs.CellWords.{key_of_word, read_text, read_ok, read_all, if_some}
-use Rattle.market_events.proofs.FormedLaws.{key_decides}
+use Rattle.market_events.proofs.NamedCells.Spelled.{key_of_word, read_text, read_ok, read_all, if_some}
+use Rattle.market_events.proofs.Values.Formed.{key_decides}
 use Rattle.market_words.proofs.WordNames.{key_word}
 use Rattle.market_events.proofs.cell_names.key_read.Goals as goal
 

@@ -1,5 +1,5 @@
 use Rattle.std.proofs.Common.{arith}
-use Rattle.market_events.proofs.CellWords.{key_of_word, read_text, read_all}
+use Rattle.market_events.proofs.NamedCells.Spelled.{key_of_word, read_text, read_all}
 use Rattle.market_words.proofs.WordNumbers.{number_id_word}
 use Rattle.market_events.proofs.cell_names.number_read.Goals as goal
 

@@ -6,10 +6,10 @@ use Rattle.market_events.specs.AnswerShape.{AreAnswers}
 use Rattle.market_events.specs.Services.{Role, answers, IsRunOf, most_steps}
 use Rattle.market_events.specs.Steps.{Step}
 use Rattle.market_events.specs.WellFormed.{IsBody}
-use Rattle.market_events.proofs.AnswerBaskets.{cart_shape}
-use Rattle.market_events.proofs.AnswerRuns.{product_shape, payment_shape, customer_shape, order_shape, stock_shape, shipment_shape, seller_shape}
-use Rattle.market_events.proofs.FormedLaws.{body_formed-IsBody}
-use Rattle.market_events.proofs.StepLaws.{fits-parts}
+use Rattle.market_events.proofs.Shapes.CartRuns.{cart_shape}
+use Rattle.market_events.proofs.Shapes.AllRuns.{product_shape, payment_shape, customer_shape, order_shape, stock_shape, shipment_shape, seller_shape}
+use Rattle.market_events.proofs.Values.Formed.{body_formed-IsBody}
+use Rattle.market_events.proofs.Steps.Taken.{fits-parts}
 use Rattle.market_events.proofs.laws.answers_have_shape.Goals as goal
 
 -- each service answers in shape

@@ -1,5 +1,5 @@
 -- Where the next that is taken fits once all before did, all fit.
-use Rattle.market_laws.proofs.RowAll.{services-fit, lanes-in_time}
+use Rattle.market_laws.proofs.Fits.All.{services-fit, lanes-in_time}
 use Rattle.market_laws.proofs.laws.events_fit.Goals as goal
 
 pub returns : goal.returns

@@ -1,13 +1,13 @@
 -- One file for each kind of event.
-use Rattle.market_laws.proofs.CausesDeliveries.{deliveries-caused}
-use Rattle.market_laws.proofs.CausesEndings.{endings-caused}
-use Rattle.market_laws.proofs.CausesFewLanes.{few-caused}
-use Rattle.market_laws.proofs.CausesInvoices.{invoices-caused}
-use Rattle.market_laws.proofs.CausesPayments.{payments-caused}
-use Rattle.market_laws.proofs.CausesReserves.{reserves-caused}
-use Rattle.market_laws.proofs.CausesShipments.{shipments-caused}
-use Rattle.market_laws.proofs.CausesStock.{stock-answers}
-use Rattle.market_laws.proofs.CausesTellings.{tellings-caused}
+use Rattle.market_laws.proofs.Causes.Deliveries.{deliveries-caused}
+use Rattle.market_laws.proofs.Causes.Endings.{endings-caused}
+use Rattle.market_laws.proofs.Causes.FewInAll.{few-caused}
+use Rattle.market_laws.proofs.Causes.Invoices.{invoices-caused}
+use Rattle.market_laws.proofs.Causes.Payments.{payments-caused}
+use Rattle.market_laws.proofs.Causes.Reserves.{reserves-caused}
+use Rattle.market_laws.proofs.Causes.Shipments.{shipments-caused}
+use Rattle.market_laws.proofs.Causes.StockReplies.{stock-answers}
+use Rattle.market_laws.proofs.Causes.Tellings.{tellings-caused}
 use Rattle.market_laws.proofs.laws.events_have_causes.Goals as goal
 
 pub returns : goal.returns

@@ -1,5 +1,5 @@
 -- Entry by entry.
-use Rattle.market_laws.proofs.ProperLaws.{histories_are}
+use Rattle.market_laws.proofs.Growth.Proper.{histories_are}
 use Rattle.market_laws.proofs.laws.lawful_histories_are_histories.Goals as goal
 
 pub returns : goal.returns

@@ -1,5 +1,5 @@
 -- Both ways.
-use Rattle.market_laws.proofs.GrownLaws.{lawful_of_grown, grown_of_lawful}
+use Rattle.market_laws.proofs.Growth.Lawful.{lawful_of_grown, grown_of_lawful}
 use Rattle.market_laws.proofs.laws.lawful_journals_are_grown.Goals as goal
 
 pub returns : goal.returns

@@ -1,5 +1,5 @@
 -- Each clause is a law of RunsOrder.
-use Rattle.market_laws.proofs.RunsOrder.{invoices-6, held-once, invoices-is-held, invoices-once, total-held, ends-is, invoice-held, ends-once, undone-failed, whole-shipped}
+use Rattle.market_laws.proofs.Runs.Orders.{invoices-6, held-once, invoices-is-held, invoices-once, total-held, ends-is, invoice-held, ends-once, undone-failed, whole-shipped}
 use Rattle.market_laws.proofs.laws.order_runs.Goals as goal
 
 pub returns : goal.returns

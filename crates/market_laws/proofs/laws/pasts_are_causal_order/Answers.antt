@@ -1,5 +1,5 @@
 -- By what the entries before an event told of the link, and by readiness.
-use Rattle.market_laws.proofs.PastOrder.{before-counts, taken-first}
+use Rattle.market_laws.proofs.Pasts.Order.{before-counts, taken-first}
 use Rattle.market_laws.proofs.laws.pasts_are_causal_order.Goals as goal
 
 pub returns : goal.returns

@@ -1,5 +1,5 @@
 -- Each clause is a law of RunsPayment.
-use Rattle.market_laws.proofs.RunsPayment.{payments-9, payments-10, payments-11, payments-12, settles-is-invoices, invoices-once, confirmed-invoice, failed-invoice}
+use Rattle.market_laws.proofs.Runs.Payments.{payments-9, payments-10, payments-11, payments-12, settles-is-invoices, invoices-once, confirmed-invoice, failed-invoice}
 use Rattle.market_laws.proofs.laws.payment_runs.Goals as goal
 
 pub returns : goal.returns

@@ -1,5 +1,5 @@
 -- Each clause is a law of RunsProduct.
-use Rattle.market_laws.proofs.RunsProduct.{changes-0, change-fits}
+use Rattle.market_laws.proofs.Runs.Products.{changes-0, change-fits}
 use Rattle.market_laws.proofs.laws.product_runs.Goals as goal
 
 pub returns : goal.returns

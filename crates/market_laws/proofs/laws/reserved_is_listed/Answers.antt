@@ -1,6 +1,6 @@
 -- By what stock took on link 8, and by the balance of what was made, taken and is outstanding on links 4, 5 and 8.
-use Rattle.market_events.proofs.StockRuns.{reserved-le-on_hand, sold-reserved-le-stocked}
-use Rattle.market_laws.proofs.Listed.{reserved-listed, listed-wait, way-listed}
+use Rattle.market_events.proofs.Runs.Stock.{reserved-le-on_hand, sold-reserved-le-stocked}
+use Rattle.market_laws.proofs.Moments.Reservations.{reserved-listed, listed-wait, way-listed}
 use Rattle.market_laws.proofs.laws.reserved_is_listed.Goals as goal
 
 pub returns : goal.returns

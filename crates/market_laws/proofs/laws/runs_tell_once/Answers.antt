@@ -1,5 +1,5 @@
 -- Each clause is a law of RunsTold.
-use Rattle.market_laws.proofs.RunsTold.{asked-once, told-le, told-is}
+use Rattle.market_laws.proofs.Runs.ToldOnce.{asked-once, told-le, told-is}
 use Rattle.market_laws.proofs.laws.runs_tell_once.Goals as goal
 
 pub returns : goal.returns

@@ -1,5 +1,5 @@
 -- By the reply that the cart told.
-use Rattle.market_laws.proofs.SettledDecided.{decided}
+use Rattle.market_laws.proofs.Settled.Decided.{decided}
 use Rattle.market_laws.proofs.laws.settled_checkouts_are_decided.Goals as goal
 
 pub returns : goal.returns

@@ -1,5 +1,5 @@
 -- What is asked is told, and what is told is taken.
-use Rattle.market_laws.proofs.SettledLanes.{lanes-idle, kept-answered}
+use Rattle.market_laws.proofs.Settled.Lanes.{lanes-idle, kept-answered}
 use Rattle.market_laws.proofs.laws.settled_lanes_answer.Goals as goal
 
 pub returns : goal.returns

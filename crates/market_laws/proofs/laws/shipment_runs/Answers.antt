@@ -1,6 +1,6 @@
 -- Each clause is a law of RunsShipment or of RunsApart.
-use Rattle.market_laws.proofs.RunsApart.{items-once}
-use Rattle.market_laws.proofs.RunsShipment.{shipments-14, deliveries-15, shipped-is, confirms-once, shipped-paid, delivered-shipped, delivered-paid}
+use Rattle.market_laws.proofs.Runs.Apart.{items-once}
+use Rattle.market_laws.proofs.Runs.Shipments.{shipments-14, deliveries-15, shipped-is, confirms-once, shipped-paid, delivered-shipped, delivered-paid}
 use Rattle.market_laws.proofs.laws.shipment_runs.Goals as goal
 
 pub returns : goal.returns

@@ -1,5 +1,5 @@
 -- Each clause is a law of RunsStock.
-use Rattle.market_laws.proofs.RunsStock.{answered-is, reserves-once, held-reserve, failed-reserve}
+use Rattle.market_laws.proofs.Runs.Stock.{answered-is, reserves-once, held-reserve, failed-reserve}
 use Rattle.market_laws.proofs.laws.stock_runs.Goals as goal
 
 pub returns : goal.returns

@@ -1,7 +1,7 @@
 -- By walking over the links, by the clocks of each journal, and by what the past of the oldest event counts.
-use Rattle.market_laws.proofs.OldestOnly.{oldest-only}
-use Rattle.market_laws.proofs.OldestTaken.{oldest-named, oldest-taken, oldest-outcome}
-use Rattle.market_laws.proofs.OldestWalk.{settled-or-oldest}
+use Rattle.market_laws.proofs.Oldest.Only.{oldest-only}
+use Rattle.market_laws.proofs.Oldest.Taken.{oldest-named, oldest-taken, oldest-outcome}
+use Rattle.market_laws.proofs.Oldest.Walk.{settled-or-oldest}
 use Rattle.market_laws.proofs.laws.the_oldest_event_is_taken.Goals as goal
 
 pub returns : goal.returns

@@ -1,7 +1,7 @@
 use Rattle.std.proofs.Common.{◌≡◌, ◌==◌, ◌<◌, ◌≤◌, true, slice_index, sym, ◌∙◌, ap, below_more, arith}
 use Rattle.market_events.specs.declared.links.Link.TheVariants.{Service}
 use Rattle.market_events.specs.Links.{receiver_of}
-use Rattle.market_events.proofs.OfferLaws.{is_ready-true, is_ready-false}
+use Rattle.market_events.proofs.Values.Offers.{is_ready-true, is_ready-false}
 use Rattle.market_links.proofs.ReadyLemmas.{unmet, met_elsewhere, met_within}
 use Rattle.market_links.proofs.receiver.is_ready.Goals as goal
 use Rattle.market_links.proofs.receiver.is_ready.Goals.{else-eq-via-then-eq+else-get, else-eq-via-else-eq}

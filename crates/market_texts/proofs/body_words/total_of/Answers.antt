@@ -1,5 +1,5 @@
 use Rattle.std.proofs.Common.{arith}
-use Rattle.market_events.proofs.Totals.{total_of-step}
+use Rattle.market_events.proofs.Values.Totals.{total_of-step}
 use Rattle.market_texts.proofs.body_words.total_of.Goals as goal
 
 pub loop-line-preserved : goal.loop-line-preserved

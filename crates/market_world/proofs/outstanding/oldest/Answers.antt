@@ -2,8 +2,9 @@
 use Rattle.std.proofs.Common.{◌≡◌, ◌+◌, Option, Some, Bor, sym, subst, arith}
 use Rattle.std.specs.Option.{option_copied}
 use Rattle.market_events.specs.declared.events.Event.{Event}
-use Rattle.market_laws.proofs.OldestTaken.{oldest-outcome}
-use Rattle.market_world.specs.Waiting.{links_many, IsFoundBelow, IsOldestBelow}
+use Rattle.market_events.specs.declared.links.TheConstants.{LINKS}
+use Rattle.market_laws.proofs.Oldest.Taken.{oldest-outcome}
+use Rattle.market_world.specs.Waiting.{IsFoundBelow, IsOldestBelow}
 use Rattle.market_world.proofs.Finding.{first-is_link, older-found, oldest-of_all}
 use Rattle.market_world.proofs.outstanding.oldest.Goals as goal
 
@@ -20,8 +21,8 @@ older-found-requires-clause-first c = first-is_link c.args.world.now c.waiting.e
 
 pub returns-clause-taken : goal.returns-clause-taken
 returns-clause-taken c =
-    let all : c.loop-index.index ≡ links_many = omega (arith, c.loop-index-test.false, c.loop-index.auto.index-end) in
+    let all : c.loop-index.index ≡ LINKS = omega (arith, c.loop-index-test.false, c.loop-index.auto.index-end) in
     let lawful = c.loop-index.invariant.1 (omega (arith, all)) in
-    let found : IsOldestBelow c.args.world.now links_many c.in_ok-event.event.now =
+    let found : IsOldestBelow c.args.world.now LINKS c.in_ok-event.event.now =
     subst (λ n. IsFoundBelow c.args.world.now n (Some c.in_ok-event.event.now)) all (subst (λ (f : Option (Bor Event)). IsFoundBelow c.args.world.now c.loop-index.index (option_copied f)) c.in_ok-event.was c.loop-index.invariant.0) in
     oldest-outcome c.args.world.now lawful c.in_ok-event.event.now.link c.in_ok-event.event.now.number found.on (oldest-of_all c.args.world.now lawful c.in_ok-event.event.now found)

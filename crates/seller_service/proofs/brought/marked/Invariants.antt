@@ -1,5 +1,5 @@
 use Rattle.std.proofs.Common.{◌≡◌, take}
-use Rattle.seller_service.specs.Kept.{all_marked}
+use Rattle.seller_service.specs.Tables.{all_marked}
 use Rattle.seller_service.proofs.brought.marked.Given as goal
 
 abbrev pub invariant-loop-line : goal.invariant-loop-line

@@ -1,5 +1,5 @@
 use Rattle.std.proofs.Common.{◌≡◌, take, count_by}
-use Rattle.seller_service.specs.Kept.{is_of_seller}
+use Rattle.seller_service.specs.Tables.{is_of_seller}
 use Rattle.seller_service.proofs.cells.count_of.Given as goal
 
 abbrev pub invariant-loop-change : goal.invariant-loop-change

@@ -3,7 +3,7 @@ use Rattle.market_events.specs.CellLists.{put_cell}
 use Rattle.market_events.specs.Cells.{cell, seller_key}
 use Rattle.market_events.specs.Sellers.{SellerChange}
 use Rattle.seller_service.specs.Cells.{change_text}
-use Rattle.seller_service.proofs.Putting.{put-next}
+use Rattle.seller_service.proofs.Puts.{put-next}
 use Rattle.seller_service.proofs.cells.put_changes.Goals as goal
 
 pub loop-index-preserved : goal.loop-index-preserved

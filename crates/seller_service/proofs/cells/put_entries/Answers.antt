@@ -2,7 +2,7 @@ use Rattle.std.proofs.Common.{ℕ, codes, ap₂, ◌∙◌}
 use Rattle.market_events.specs.CellLists.{put_cell}
 use Rattle.market_events.specs.Cells.{cell, seller_key, entry_text}
 use Rattle.market_events.specs.Sellers.{SellerChange}
-use Rattle.seller_service.proofs.Putting.{put-next}
+use Rattle.seller_service.proofs.Puts.{put-next}
 use Rattle.seller_service.proofs.cells.put_entries.Goals as goal
 
 pub loop-index-preserved : goal.loop-index-preserved

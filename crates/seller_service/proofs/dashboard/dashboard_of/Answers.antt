@@ -1,5 +1,5 @@
 use Rattle.std.proofs.Common.{length, ap, arith}
-use Rattle.market_events.proofs.DashboardLaws.{in_progress_at-few}
+use Rattle.market_events.proofs.Runs.Dashboards.{in_progress_at-few}
 use Rattle.seller_service.proofs.dashboard.dashboard_of.Goals as goal
 
 pub overflow_cast-entries : goal.overflow_cast-entries

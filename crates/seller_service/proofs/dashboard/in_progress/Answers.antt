@@ -1,26 +1,10 @@
-use Rattle.std.proofs.Common.{◌++◌, filter_map, ap, sym, ◌∙◌, append-nil}
-use Rattle.std.specs.Option.{option_to_list}
-use Rattle.std.proofs.lemmas.List.{take_all}
-use Rattle.seller_service.specs.Entries.{status_in, shown_at}
-use Rattle.seller_service.proofs.Lists.{filter_map-push}
-use Rattle.seller_service.proofs.Showing.{shown_all}
+use Rattle.std.proofs.Common.{◌∙◌}
+use Rattle.market_events.proofs.NamedCells.Keyed.{if_ok}
+use Rattle.seller_service.proofs.Dashboards.{shown_all}
 use Rattle.seller_service.proofs.dashboard.in_progress.Goals as goal
-use Rattle.seller_service.proofs.dashboard.in_progress.Goals.{in-Some+in_ok-push, in_default}
-
-pub loop-change-preserved : goal.loop-change-preserved
-loop-change-preserved c =
-    elim c.match-shown.branch [
-      | in-Some+in_ok-push w ↦
-          filter_map-push (shown_at (status_in c.in_ok-statuses.statuses.entries)) c.args.changes.now c.loop-change.change-index c.change-item.result c.loop-change.rows.items c.match-shown.rows.items c.shown.result
-          c.loop-change-test.true c.loop-change.invariant (c.shown.ensures ∙ ap (shown_at (status_in c.in_ok-statuses.statuses.entries)) c.change-item.is)
-          (ap (λ v. v.items) w.rows-is ∙ w.in_ok-push.ensures.items ∙ ap (λ o. c.loop-change.rows.items ++ option_to_list o) (sym w.in-Some.is))
-      | in_default w ↦
-          filter_map-push (shown_at (status_in c.in_ok-statuses.statuses.entries)) c.args.changes.now c.loop-change.change-index c.change-item.result c.loop-change.rows.items c.match-shown.rows.items c.shown.result
-          c.loop-change-test.true c.loop-change.invariant (c.shown.ensures ∙ ap (shown_at (status_in c.in_ok-statuses.statuses.entries)) c.change-item.is)
-          (ap (λ v. v.items) w.rows-is ∙ sym (append-nil c.loop-change.rows.items) ∙ ap (λ o. c.loop-change.rows.items ++ option_to_list o) (sym w.in_default.is))
-    ]
+use Rattle.seller_service.specs.Dashboards.{status_in_table}
 
 pub returns : goal.returns
 returns c =
-    c.loop-change.invariant ∙ ap (filter_map (shown_at (status_in c.in_ok-statuses.statuses.entries))) (take_all c.loop-change.change-index c.args.changes.now c.loop-change-test.false)
-    ∙ shown_all (status_in c.in_ok-statuses.statuses.entries) c.args.changes.now c.in_ok-statuses.ensures
+    if_ok (λ rows e. e ∙ shown_all (status_in_table c.in_ok-statuses.statuses) c.args.changes.now c.in_ok-statuses.ensures)
+    c.all_shown.result c.all_shown.ensures

@@ -1,18 +1,18 @@
 use Rattle.std.proofs.Common.{sym, ap, ◌∙◌}
 use Rattle.market_events.specs.Cells.{look_text}
-use Rattle.market_events.proofs.KeyedCells.{if_ok, none_some}
+use Rattle.market_events.proofs.NamedCells.Keyed.{if_ok, none_some}
 use Rattle.cart_replica.proofs.CopyCells.{look_cells-none, found_is, found_copied}
 use Rattle.cart_replica.proofs.replica.ProductCopy.cell_value.Goals as goal
 
-pub returns-in_default-clause-is : goal.returns-in_default-clause-is
-returns-in_default-clause-is c = λ key formed is. absurd (none_some key (c.in_default.ensures.all key formed is))
+pub returns-in_default-clause-shown : goal.returns-in_default-clause-shown
+returns-in_default-clause-shown c = λ key formed is. absurd (none_some key (c.in_default.ensures.all key formed is))
 
 pub returns-in_default-clause-copied : goal.returns-in_default-clause-copied
 returns-in_default-clause-copied c = λ changes copied formed.
     sym (look_cells-none c.args.table.now changes formed c.args.name.now (λ key known is. none_some key (c.in_default.ensures.all key known is)))
 
-pub returns-clause-is : goal.returns-clause-is
-returns-clause-is c =
+pub returns-clause-shown : goal.returns-clause-shown
+returns-clause-shown c =
     if_ok (λ value e. found_is c.args.self.now c.args.table.now c.args.name.now c.in-Some.key c.in-Some.ensures.formed c.in-Some.ensures.is value
     (e ∙ ap look_text c.look.ensures.value)) c.look_text.result c.look_text.ensures
 

@@ -3,7 +3,7 @@ use Rattle.std.specs.Map.{keys_of}
 use Rattle.std.specs.Map.Iter.{deref}
 use Rattle.std.proofs.lemmas.Map.Iter.{iter_end}
 use Rattle.market_events.specs.CellNames.{basket_name}
-use Rattle.cart_service.specs.BasketCells.{basket_table, names_in}
+use Rattle.cart_service.specs.Cells.{basket_table, names_in}
 use Rattle.cart_service.proofs.basket.Basket.names.Goals as goal
 
 pub returns : goal.returns

@@ -1,7 +1,7 @@
 use Rattle.std.proofs.Common.{◌≡◌, map}
 use Rattle.std.specs.Map.Iter.{deref}
 use Rattle.market_events.specs.CellNames.{basket_name}
-use Rattle.cart_service.specs.BasketCells.{basket_table}
+use Rattle.cart_service.specs.Cells.{basket_table}
 use Rattle.cart_service.proofs.basket.Basket.names.Given as goal
 
 abbrev pub invariant-loop-key : goal.invariant-loop-key

@@ -1,9 +1,9 @@
 use Rattle.std.proofs.Common.{sym, ◌∙◌}
 use Rattle.std.proofs.Math.Logic.{∥∥₁_elim}
 use Rattle.market.specs.Once.{kept_of}
-use Rattle.market.specs.Output.{most_kept}
-use Rattle.market.proofs.Hands.{passes_over, is_next, takes_in}
+use Rattle.market.proofs.Kept.Hands.{passes_over, is_next, takes_in}
 use Rattle.market.proofs.hand.Hand.take.Goals as goal
+use Rattle.market_history.specs.Once.{most_kept}
 
 pub returns-then-not-can_keep : goal.returns-then-not-can_keep
 returns-then-not-can_keep c = λ given stands. passes_over c.args.self.now given c.args.request.now stands (sym c.can_keep.ensures ∙ c.if-not-can_keep.true)

@@ -1,7 +1,7 @@
 use Rattle.std.proofs.Common.{IfSome, ap, sym, subst, ◌∙◌}
 use Rattle.std.specs.List.{slice_get, AllByRecursion}
 use Rattle.market.specs.Lanes.{kept_at, IsFormed}
-use Rattle.market.proofs.Keeping.{find_at_place, find_nowhere, copied_at, formed_at, if_copied}
+use Rattle.market.proofs.Kept.Places.{find_at_place, find_nowhere, copied_at, formed_at, if_copied}
 use Rattle.market.proofs.lanes.Lanes.find.Goals as goal
 
 pub returns-in_err-place-clause-found : goal.returns-in_err-place-clause-found

@@ -1,8 +1,9 @@
 use Rattle.std.proofs.Common.{◌≡◌, [], ◌∷◌, ◌++◌, length, arith, ap, ◌∙◌, cond, Some}
 use Rattle.std.specs.BTreeMap.{is_at}
-use Rattle.market.specs.Lanes.{kept_at, id_cmp, place_at}
-use Rattle.market.proofs.Keeping.{one_kept}
+use Rattle.market.specs.Lanes.{kept_at, place_at}
+use Rattle.market.proofs.Kept.Places.{one_kept}
 use Rattle.market.proofs.lanes.Lanes.keep.Goals as goal
+use Rattle.market_amounts.specs.Keys.{id_cmp}
 
 pub invariant_of-self-2 : goal.invariant_of-self-2
 invariant_of-self-2 c =

@@ -1,27 +1,28 @@
 use Rattle.std.proofs.Common.{◌≡◌, ap, sym, ◌∙◌, subst}
-use Rattle.market_events.specs.Services.{Role}
-use Rattle.cart_service.specs.Tables as cart
-use Rattle.customer_service.specs.Tallies as customer
-use Rattle.order_service.specs.Kept as order
-use Rattle.payment_service.specs.Accounts as payment
-use Rattle.product_service.specs.Products as product
-use Rattle.seller_service.specs.Kept as seller
-use Rattle.shipment_service.specs.Holding as shipment
-use Rattle.stock_service.specs.Holding as stock
-use Rattle.market.specs.Carrying.{role_at, with_taken}
+use Rattle.market_events.specs.declared.roles.Role.{Role}
+use Rattle.cart_service.specs.Holds as cart
+use Rattle.customer_service.specs.Holds as customer
+use Rattle.market_history.specs.Blocks.{role_at}
+use Rattle.order_service.specs.Holds as order
+use Rattle.payment_service.specs.Holds as payment
+use Rattle.product_service.specs.Holds as product
+use Rattle.seller_service.specs.Holds as seller
+use Rattle.shipment_service.specs.Holds as shipment
+use Rattle.stock_service.specs.Holds as stock
+use Rattle.market.specs.Carrying.{with_taken}
 use Rattle.market.specs.Places.{role_of}
 use Rattle.market.specs.Services.{StandFor}
-use Rattle.market.proofs.Giving.{can_take, fits_at, answers_at, stands_at, carts_on, products_on, stocks_on, orders_on, payments_on, shipments_on, customers_on, sellers_on}
+use Rattle.market.proofs.Carrying.Giving.{can_take, fits_at, answers_at, stands_at, carts_on, products_on, stocks_on, orders_on, payments_on, shipments_on, customers_on, sellers_on}
 use Rattle.market.proofs.services.Services.accept.Goals.{in-Cart+in_ok-accept-in-Cart, in-Product+in_ok-accept-in-Product, in-Stock+in_ok-accept-in-Stock, in-Order+in_ok-accept-in-Order, in-Payment+in_ok-accept-in-Payment, in-Shipment+in_ok-accept-in-Shipment, in-Customer+in_ok-accept-in-Customer, in-Seller+in_ok-accept-in-Seller}
 use Rattle.market.proofs.services.Services.accept.Goals as goal
 
 pub accept-requires-clause-can : goal.accept-requires-clause-can
 accept-requires-clause-can c =
-    can_take c.args.service Role.Cart (sym c.place_of.ensures ∙ ap role_of c.in-Cart.is) c.args.from c.args.body.now cart.IsKept c.args.self.now.carts c.args.self.now (λ taken stand. stand.carts) c.requires
+    can_take c.args.service Role.Cart (sym c.place_of.ensures ∙ ap role_of c.in-Cart.is) c.args.from c.args.body.now cart.Holds c.args.self.now.carts c.args.self.now (λ taken stand. stand.carts) c.requires
 
 pub accept-requires-in-Product-clause-can : goal.accept-requires-in-Product-clause-can
 accept-requires-in-Product-clause-can c =
-    can_take c.args.service Role.Product (sym c.place_of.ensures ∙ ap role_of c.in-Product.is) c.args.from c.args.body.now product.HoldsProducts c.args.self.now.products c.args.self.now (λ taken stand. stand.products) c.requires
+    can_take c.args.service Role.Product (sym c.place_of.ensures ∙ ap role_of c.in-Product.is) c.args.from c.args.body.now product.Holds c.args.self.now.products c.args.self.now (λ taken stand. stand.products) c.requires
 
 pub accept-requires-in-Stock-clause-can : goal.accept-requires-in-Stock-clause-can
 accept-requires-in-Stock-clause-can c =
@@ -29,11 +30,11 @@ accept-requires-in-Stock-clause-can c =
 
 pub accept-requires-in-Order-clause-can : goal.accept-requires-in-Order-clause-can
 accept-requires-in-Order-clause-can c =
-    can_take c.args.service Role.Order (sym c.place_of.ensures ∙ ap role_of c.in-Order.is) c.args.from c.args.body.now order.IsKept c.args.self.now.orders c.args.self.now (λ taken stand. stand.orders) c.requires
+    can_take c.args.service Role.Order (sym c.place_of.ensures ∙ ap role_of c.in-Order.is) c.args.from c.args.body.now order.Holds c.args.self.now.orders c.args.self.now (λ taken stand. stand.orders) c.requires
 
 pub accept-requires-in-Payment-clause-can : goal.accept-requires-in-Payment-clause-can
 accept-requires-in-Payment-clause-can c =
-    can_take c.args.service Role.Payment (sym c.place_of.ensures ∙ ap role_of c.in-Payment.is) c.args.from c.args.body.now payment.HoldsPayments c.args.self.now.payments c.args.self.now (λ taken stand. stand.payments) c.requires
+    can_take c.args.service Role.Payment (sym c.place_of.ensures ∙ ap role_of c.in-Payment.is) c.args.from c.args.body.now payment.Holds c.args.self.now.payments c.args.self.now (λ taken stand. stand.payments) c.requires
 
 pub accept-requires-in-Shipment-clause-can : goal.accept-requires-in-Shipment-clause-can
 accept-requires-in-Shipment-clause-can c =
@@ -41,11 +42,11 @@ accept-requires-in-Shipment-clause-can c =
 
 pub accept-requires-in-Customer-clause-can : goal.accept-requires-in-Customer-clause-can
 accept-requires-in-Customer-clause-can c =
-    can_take c.args.service Role.Customer (sym c.place_of.ensures ∙ ap role_of c.in-Customer.is) c.args.from c.args.body.now customer.IsCounted c.args.self.now.customers c.args.self.now (λ taken stand. stand.customers) c.requires
+    can_take c.args.service Role.Customer (sym c.place_of.ensures ∙ ap role_of c.in-Customer.is) c.args.from c.args.body.now customer.Holds c.args.self.now.customers c.args.self.now (λ taken stand. stand.customers) c.requires
 
 pub accept-requires-in-Seller-clause-can : goal.accept-requires-in-Seller-clause-can
 accept-requires-in-Seller-clause-can c =
-    can_take c.args.service Role.Seller (sym c.place_of.ensures ∙ ap role_of c.in-Seller.is) c.args.from c.args.body.now seller.IsKept c.args.self.now.sellers c.args.self.now (λ taken stand. stand.sellers) c.requires
+    can_take c.args.service Role.Seller (sym c.place_of.ensures ∙ ap role_of c.in-Seller.is) c.args.from c.args.body.now seller.Holds c.args.self.now.sellers c.args.self.now (λ taken stand. stand.sellers) c.requires
 
 pub returns-clause-made : goal.returns-clause-made
 returns-clause-made c = λ taken stand fit.

@@ -6,7 +6,7 @@ use Rattle.market_events.specs.declared.replies.Reply.{Reply}
 use Rattle.market_history.specs.Acts.{no_acts}
 use Rattle.market.specs.Carrying.{IsTrace, with_request}
 use Rattle.market_history.specs.Sequential.{acts_after, sequential_reply}
-use Rattle.market.proofs.Serves.{next_answered, next_told, next_reply_formed, serves_more, formed_reply, formed_is}
+use Rattle.market.proofs.Carrying.Served.{next_answered, next_told, next_reply_formed, serves_more, formed_reply, formed_is}
 use Rattle.market.proofs.services.Services.ask.Goals as goal
 
 -- the same in an option

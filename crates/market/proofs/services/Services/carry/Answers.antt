@@ -1,8 +1,8 @@
 use Rattle.std.proofs.Common.{◌<◌, ◌++◌, None, ap, sym, subst, ◌∙◌}
 use Rattle.std.specs.Option.{option_or}
 use Rattle.market_history.specs.Sequential.{reply_told}
-use Rattle.market.proofs.Passing.{StandsAt, IsCarrying, begins, can_pass, goes_on, lighter, empty_of_rest, stands_in_the_end, told_in_the_end}
-use Rattle.market.proofs.Weights.{weights}
+use Rattle.market.proofs.Carrying.Passing.{StandsAt, IsCarrying, begins, can_pass, goes_on, lighter, empty_of_rest, stands_in_the_end, told_in_the_end}
+use Rattle.market.proofs.Carrying.Weights.{weights}
 use Rattle.market.proofs.services.Services.carry.Goals as goal
 
 pub loop-link-init : goal.loop-link-init

@@ -1,5 +1,5 @@
-use Rattle.market.proofs.Passing.{IsCarrying}
-use Rattle.market.proofs.Weights.{weights}
+use Rattle.market.proofs.Carrying.Passing.{IsCarrying}
+use Rattle.market.proofs.Carrying.Weights.{weights}
 use Rattle.market.proofs.services.Services.carry.Given as goal
 
 -- what waits is carried

@@ -1,18 +1,18 @@
 use Rattle.std.proofs.Common.{◌+◌, ◌*◌, ◌≤◌, [], length, refl, arith}
-use Rattle.market_events.specs.Services.{Role}
+use Rattle.market_events.specs.declared.roles.Role.{Role}
 use Rattle.market_amounts.specs.declared.keys.RequestId.{RequestId}
-use Rattle.market.specs.Carrying.{Taken, steps_of, IsFresh, most_made}
+use Rattle.market.specs.Carrying.{Taken, IsFresh, most_made, steps_taken}
 use Rattle.market.proofs.services.Services.new.Goals as goal
 
 -- no service took a step
 abbrev none_taken : Taken
 none_taken = record { carts = []; products = []; stocks = []; orders = []; payments = []; shipments = []; customers = []; sellers = [] }
 
-none_few : (role : Role) → length (steps_of none_taken role) ≤ (most_made + 1) * 0
+none_few : (role : Role) → length (steps_taken none_taken role) ≤ (most_made + 1) * 0
 none_few Role.Cart = omega arith
 none_few other = omega arith
 
-none_asked : (id : RequestId) (role : Role) → IsFresh (steps_of none_taken role) id
+none_asked : (id : RequestId) (role : Role) → IsFresh (steps_taken none_taken role) id
 none_asked id Role.Cart = refl
 none_asked id other = refl
 

@@ -1,6 +1,6 @@
 use Rattle.std.proofs.Common.{sym, subst}
 use Rattle.market_events.specs.Links.{IsLink}
-use Rattle.market.proofs.Giving.{link_within, can_take_there, makes_there, stands_there}
+use Rattle.market.proofs.Carrying.Giving.{link_within, can_take_there, makes_there, stands_there}
 use Rattle.market.proofs.services.Services.pass.Goals as goal
 
 pub receiver_of-requires : goal.receiver_of-requires

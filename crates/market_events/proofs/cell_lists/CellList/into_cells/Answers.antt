@@ -1,7 +1,7 @@
 use Rattle.std.proofs.Common.{rules, ◌≡◌, map, ap, sym, ◌∙◌}
 use Rattle.std.proofs.lemmas.Map.Iter.{iter_end}
 use Rattle.market_events.specs.CellLists.{entry_cells_of}
-use Rattle.market_events.proofs.KeyedCells.{map-same}
+use Rattle.market_events.proofs.NamedCells.Keyed.{map-same}
 use Rattle.market_events.proofs.cell_lists.CellList.into_cells.Goals as goal
 
 pub returns : goal.returns

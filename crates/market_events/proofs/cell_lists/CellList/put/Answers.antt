@@ -2,7 +2,7 @@ use Rattle.std.proofs.Common.{◌≡◌, ap, sym, ◌∙◌}
 use Rattle.std.specs.BTreeMap.{insert_entry}
 use Rattle.market_events.specs.CellLists.{put_cell}
 use Rattle.market_events.specs.Cells.{name_cmp}
-use Rattle.market_events.proofs.CellLaws.{put-insert_entry}
+use Rattle.market_events.proofs.NamedCells.Named.{put-insert_entry}
 use Rattle.market_events.proofs.cell_lists.CellList.put.Goals as goal
 
 pub returns-clause-ok : goal.returns-clause-ok

@@ -2,8 +2,8 @@ use Rattle.std.proofs.Common.{rules, ◌≡◌, map, sym, subst, ◌∙◌}
 use Rattle.std.specs.List.{IsDistinct}
 use Rattle.std.proofs.lemmas.Map.Iter.{iter_end}
 use Rattle.market_events.specs.Standing.{same_name}
-use Rattle.market_events.proofs.NameLists.{rising_differ}
-use Rattle.market_events.proofs.KeyedCells.{map-same}
+use Rattle.market_events.proofs.NamedCells.Names.{rising_differ}
+use Rattle.market_events.proofs.NamedCells.Keyed.{map-same}
 use Rattle.market_events.proofs.name_lists.NameList.into_names.Goals as goal
 
 pub returns-clause-is : goal.returns-clause-is

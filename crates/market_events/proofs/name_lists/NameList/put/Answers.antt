@@ -2,7 +2,7 @@ use Rattle.std.proofs.Common.{◌≡◌, ◌+◌, ◌≤◌, ap, sym, subst, ◌
 use Rattle.std.specs.BTreeSet.{insert_key}
 use Rattle.market_events.specs.Cells.{name_cmp}
 use Rattle.market_events.specs.Standing.{is_named}
-use Rattle.market_events.proofs.NameLists.{named_put, few_put}
+use Rattle.market_events.proofs.NamedCells.Names.{named_put, few_put}
 use Rattle.market_events.proofs.name_lists.NameList.put.Goals as goal
 
 pub returns-clause-named : goal.returns-clause-named

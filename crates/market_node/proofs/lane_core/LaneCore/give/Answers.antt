@@ -23,12 +23,12 @@ make-requires-clause-clock c =
 
 pub invariant_of-self-2 : goal.invariant_of-self-2
 invariant_of-self-2 c =
-    let is = moved c.self.inside.recorder c.reserve.new.self c.give.new.self c.make.new.self (Given c.args.request.now) (Out.Makes c.link_of.result (body.Asked c.args.request.now)) _ _ _
+    let is = moved c.self.inside.recorder c.reserve.new.self c.give.new.self c.make.new.self (Given c.args.request.now) (Out.Makes c.asking_link.result (body.Asked c.args.request.now)) _ _ _
     c.in_ok-reserve.ensures.ok c.give.ensures c.make.ensures
     in
     record {
       lane = subst IsLane (sym (ap (λ (s : CoreState). s.node) is)) c.self.invariant.lane;
-      keeps = asks c.self.inside.recorder.entries c.make.new.self.entries c.entries.result.now c.args.request.now c.link_of.result (body.Asked c.args.request.now) _ _ _ _ c.self.invariant.keeps
+      keeps = asks c.self.inside.recorder.entries c.make.new.self.entries c.entries.result.now c.args.request.now c.asking_link.result (body.Asked c.args.request.now) _ _ _ _ c.self.invariant.keeps
           (ap (λ (s : CoreState). give_of s.entries c.args.request.now) c.self.view_is
           ∙ sym c.judge-give.ensures
           ∙ same_true the_type (search rules) _ _ (not_so _ c.if-ne.ensures))
@@ -39,9 +39,9 @@ invariant_of-self-2 c =
 
 pub returns-clause-asked : goal.returns-clause-asked
 returns-clause-asked c asked =
-    moved c.self.inside.recorder c.reserve.new.self c.give.new.self c.make.new.self (Given c.args.request.now) (Out.Makes c.link_of.result (body.Asked c.args.request.now)) _ _ _
+    moved c.self.inside.recorder c.reserve.new.self c.give.new.self c.make.new.self (Given c.args.request.now) (Out.Makes c.asking_link.result (body.Asked c.args.request.now)) _ _ _
     c.in_ok-reserve.ensures.ok c.give.ensures c.make.ensures
-    ∙ ap (λ (s : CoreState). with_entries s (with_out (with_what s.entries (Given c.args.request.now)) (Out.Makes c.link_of.result (body.Asked c.args.request.now)))) c.self.view_is
-    ∙ ap (λ (to : Link). with_entries c.args.self.now (with_out (with_what c.args.self.now.entries (Given c.args.request.now)) (Out.Makes to (body.Asked c.args.request.now)))) c.link_of.ensures
+    ∙ ap (λ (s : CoreState). with_entries s (with_out (with_what s.entries (Given c.args.request.now)) (Out.Makes c.asking_link.result (body.Asked c.args.request.now)))) c.self.view_is
+    ∙ ap (λ (to : Link). with_entries c.args.self.now (with_out (with_what c.args.self.now.entries (Given c.args.request.now)) (Out.Makes to (body.Asked c.args.request.now)))) c.asking_link.ensures
     ∙ sym (ap (λ es. with_entries c.args.self.now es)
     (grow-given c.args.self.now.node c.args.self.now.entries c.args.request.now (subst (λ (s : CoreState). 8 ≤ s.node) c.self.view_is c.self.invariant.lane.0)))

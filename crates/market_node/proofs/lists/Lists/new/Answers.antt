@@ -1,8 +1,8 @@
 use Rattle.std.proofs.Common.{◌≡◌, ◌∷◌, [], ◌++◌, List, length, replicate, ap, ◌∙◌, arith}
 use Rattle.std.proofs.lemmas.List.{length-replicate, replicate_more}
+use Rattle.market_links.specs.declared.slots.TheConstants.{SLOTS}
 use Rattle.market_node.specs.Notes.{no_places}
 use Rattle.market_node.specs.PlaceStates.{PlaceState}
-use Rattle.market_node.specs.Slots.{slots}
 use Rattle.market_node.proofs.lists.Lists.new.Goals as goal
 
 pub loop-slot-init : goal.loop-slot-init
@@ -20,5 +20,5 @@ invariant_of-result c =
 
 pub returns : goal.returns
 returns c =
-    let all : c.loop-slot._slot ≡ slots = omega (arith, c.loop-slot-test.false, c.loop-slot.auto._slot-end) in
+    let all : c.loop-slot._slot ≡ SLOTS = omega (arith, c.loop-slot-test.false, c.loop-slot.auto._slot-end) in
     c.loop-slot.invariant ∙ ap (λ n. replicate n no_places) all

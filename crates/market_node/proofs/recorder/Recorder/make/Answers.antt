@@ -7,10 +7,10 @@ use Rattle.market_history.specs.Blocks.{with_what, next_event}
 use Rattle.market_history.specs.Stamps.{clock_before}
 use Rattle.market_history.proofs.CoreEntries.{length-sent}
 use Rattle.market_history.proofs.PastCounts.{journal-counts}
+use Rattle.market_links.specs.Slots.{slot_from}
 use Rattle.market_node.specs.Notes.{at_slot, HaveRoom}
 use Rattle.market_node.specs.PlaceStates.{PlaceState}
 use Rattle.market_node.specs.Records.{RecordState}
-use Rattle.market_node.specs.Slots.{slot_from}
 use Rattle.market_node.proofs.NoteLaws.{HaveRoom-push}
 use Rattle.market_node.proofs.RecordLaws.{at_most-push, entry_at, event_at, state, same_parts, noted_count, made_entry, notes_made, written_event}
 use Rattle.market_node.proofs.recorder.Recorder.make.Goals as goal

@@ -1,6 +1,6 @@
 -- Service by service.
 use Rattle.std.proofs.Common.{◌≡◌, IfOk, refl, subst}
-use Rattle.market_events.specs.Services.{Role}
+use Rattle.market_events.specs.declared.roles.Role.{Role}
 use Rattle.market_history.specs.Histories.{journal_at}
 use Rattle.market_world.specs.CoresInside.{entries_by_node}
 use Rattle.market_world.proofs.Dispatch.{cells_there}

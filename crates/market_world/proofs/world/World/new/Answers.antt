@@ -1,7 +1,7 @@
 -- Where nothing happened, the histories are lawful.
 use Rattle.std.proofs.Common.{sym, subst}
 use Rattle.market_history.specs.Lawful.{IsLawful}
-use Rattle.market_laws.proofs.PlayLaws.{nothing_lawful}
+use Rattle.market_laws.proofs.Growth.Played.{nothing_lawful}
 use Rattle.market_world.proofs.world.World.new.Goals as goal
 
 pub invariant_of-result : goal.invariant_of-result

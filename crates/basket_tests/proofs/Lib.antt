@@ -1,0 +1,3 @@
+pub mod CartTrialing
+pub mod ProductTesting
+pub mod StockTesting

@@ -1,0 +1,2 @@
+pub mod CartTrials
+pub mod StockExamples

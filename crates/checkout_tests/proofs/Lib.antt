@@ -1,0 +1,2 @@
+pub mod OrderTesting
+pub mod PaymentTesting

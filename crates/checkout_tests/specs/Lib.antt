@@ -1,0 +1,2 @@
+pub mod OrderExamples
+pub mod PaymentExamples

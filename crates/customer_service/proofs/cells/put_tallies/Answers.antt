@@ -1,0 +1,17 @@
+use Rattle.std.proofs.Common.{rules, ◌≡◌, map, ap, ◌∙◌}
+use Rattle.std.specs.Map.{keys_of}
+use Rattle.std.specs.Map.Iter.{deref}
+use Rattle.std.proofs.lemmas.Map.Iter.{iter_end}
+use Rattle.market_events.specs.CellLists.{put_each, key_cell}
+use Rattle.market_events.proofs.NamedCells.Keyed.{put_each-all}
+use Rattle.customer_service.specs.Cells.{name_by, texts_in}
+use Rattle.customer_service.proofs.cells.put_tallies.Goals as goal
+
+pub returns : goal.returns
+returns c =
+    let table = c.args.tallies.now in
+    let start : c.into_iter-customer-iterator.result ≡ keys_of table = search rules in
+    let all : map deref c.loop-customer.yielded ≡ keys_of table
+    = (iter_end deref (keys_of table) c.loop-customer.yielded _ _ _ _ start c.loop-customer.yielded_by c.in-None.is c.next.ensures.steps).0 in
+    c.loop-customer.invariant ∙ ap (put_each (key_cell name_by (texts_in table)) c.args.cells.now) all
+    ∙ put_each-all (key_cell name_by (texts_in table)) c.args.cells.now (keys_of table)

@@ -1,0 +1,16 @@
+use Rattle.std.proofs.Common.{ap, ◌∙◌, arith}
+use Rattle.customer_service.specs.Cells.{text_by}
+use Rattle.market_events.specs.WellFormed.{IsId}
+use Rattle.market_events.proofs.NamedCells.Keyed.{if_ok, none_some}
+use Rattle.customer_service.proofs.Values.{found_at, found_none}
+use Rattle.customer_service.proofs.cells.value_named.Goals as goal
+
+pub returns-in_default : goal.returns-in_default
+returns-in_default c =
+    found_none c.args.tallies.now c.args.name.now (λ customer small is. none_some customer (c.in_default.ensures.found customer (omega arith) is))
+
+pub returns : goal.returns
+returns c =
+    let small : IsId c.in-Some.customer = omega arith in
+    if_ok (λ value e. found_at c.args.tallies.now c.args.name.now c.in-Some.customer small c.in-Some.ensures.named value (e ∙ ap text_by c.get.ensures))
+    c.text_of.result c.text_of.ensures

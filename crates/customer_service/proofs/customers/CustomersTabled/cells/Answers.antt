@@ -1,7 +1,0 @@
-use Rattle.std.proofs.Common.{◌∙◌}
-use Rattle.market_events.proofs.KeyedCells.{if_ok}
-use Rattle.customer_service.proofs.CustomerCells.{table_told}
-use Rattle.customer_service.proofs.customers.CustomersTabled.cells.Goals as goal
-
-pub returns : goal.returns
-returns c = if_ok (λ cells e steps stands. e ∙ table_told c.args.self.now steps stands) c.cells_of.result (rw (← c.self.view_is) c.cells_of.ensures)

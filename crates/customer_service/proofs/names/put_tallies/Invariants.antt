@@ -1,8 +1,0 @@
-use Rattle.std.proofs.Common.{◌≡◌, map}
-use Rattle.std.specs.Map.Iter.{deref}
-use Rattle.market_events.specs.CellLists.{put_each, key_cell}
-use Rattle.customer_service.specs.Cells.{name_by, texts_in}
-use Rattle.customer_service.proofs.names.put_tallies.Given as goal
-
-abbrev pub invariant-loop-customer : goal.invariant-loop-customer
-invariant-loop-customer l = l.cells ≡ put_each (key_cell name_by (texts_in l.tallies.entries)) l.fn.cells (map deref l.yielded)

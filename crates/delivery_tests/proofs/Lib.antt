@@ -1,0 +1,3 @@
+pub mod CustomerTesting
+pub mod SellerTesting
+pub mod ShipmentTesting

@@ -1,0 +1,2 @@
+pub mod CustomerExamples
+pub mod SellerExamples

@@ -1,0 +1,195 @@
+-- In settled histories the counts of a checkout's events agree from service to service, so as many of it ended as were sent on:
+-- what the cart sent on to stock was refused, or its pieces are held (sent-on); what is held was paid for or was not
+-- (held-settled); and what the cart took of ends is as much as it sent on (ended-sent).
+use Rattle.std.proofs.Common.{◌≡◌, ℕ, ◌+◌, ◌<◌, ◌≤◌, Bool, true, false, cond, List, count_by, refl, ap, sym, ◌∙◌, subst, arith}
+use Rattle.market_amounts.specs.declared.keys.RequestId.{RequestId}
+use Rattle.market_events.specs.declared.bodies.Body.{Body}
+use Rattle.market_events.specs.declared.bodies.Body.TheVariants as body
+use Rattle.market_events.specs.declared.links.Link.TheVariants.{Service}
+use Rattle.market_events.specs.Carried.{carries, service_carries}
+use Rattle.market_events.specs.Orders.{ships}
+use Rattle.market_events.specs.Requests.{same_id}
+use Rattle.market_events.specs.Services.{ends, invoices, reserves}
+use Rattle.market_events.specs.Steps.{Step, taken_bodies, made_on}
+use Rattle.market_events.specs.Stocks.{confirms, fails, settles}
+use Rattle.market_events.specs.declared.links.TheConstants.{CART_TO_STOCK, STOCK_TO_CART, STOCK_TO_ORDER}
+use Rattle.market_events.specs.declared.links.TheConstants.{ORDER_TO_PAYMENT, ORDER_TO_CART, PAYMENT_TO_STOCK}
+use Rattle.market_events.proofs.Values.Lists.{sum_by_agree, sum_by_plus}
+use Rattle.market_history.specs.Blocks.{services}
+use Rattle.market_history.specs.Histories.{Histories, journal_at}
+use Rattle.market_history.specs.Lawful.{IsLawful}
+use Rattle.market_history.specs.Outstanding.{IsSettled}
+use Rattle.market_history.proofs.GrowSent.{bodies_on}
+use Rattle.market_laws.specs.Cuts.{steps_at}
+use Rattle.market_laws.specs.Runs.{holds_pieces, is_payment}
+use Rattle.market_laws.proofs.Causes.FewOnLinks.{made-of-member, count-members}
+use Rattle.market_laws.proofs.Origins.Made.{steps-run, whole}
+use Rattle.market_laws.proofs.Origins.Senders.{made-as}
+use Rattle.market_laws.proofs.Settled.Passing.{count-kept}
+use Rattle.market_laws.proofs.Runs.Orders.{invoices-is-held, ends-is}
+use Rattle.market_laws.proofs.Runs.Payments.{payments-9, payments-10, settles-is-invoices}
+use Rattle.market_laws.proofs.Runs.Shipments.{shipped-is}
+use Rattle.market_laws.proofs.Runs.Stock.{answered-is}
+use Rattle.market_laws.proofs.Settled.Links.{ComesOn, count-made}
+
+-- stock refused the checkout, and its order ended
+abbrev pub refuses : RequestId → Body → Bool
+refuses id (body.ReserveFailed checkout key rule) = same_id checkout id
+refuses id other = false
+
+abbrev pub finishes : RequestId → Body → Bool
+finishes id (body.Ended checkout ending) = same_id checkout id
+finishes id other = false
+
+-- where each kind comes in
+pub reserves-come : (id : RequestId) → ComesOn 2 2 (reserves id)
+reserves-come id (body.Reserve checkout customer lines) passes = (tt, refl)
+reserves-come id other passes = cc
+
+pub refuses-come : (id : RequestId) → ComesOn 0 3 (refuses id)
+refuses-come id (body.ReserveFailed checkout key rule) passes = (tt, refl)
+refuses-come id other passes = cc
+
+pub holds-come : (id : RequestId) → ComesOn 3 4 (holds_pieces id)
+holds-come id (body.StockConfirmed checkout customer lines) passes = (tt, refl)
+holds-come id other passes = cc
+
+pub invoices-come : (id : RequestId) → ComesOn 4 5 (invoices id)
+invoices-come id (body.Invoice checkout customer lines total) passes = (tt, refl)
+invoices-come id other passes = cc
+
+pub finishes-come : (id : RequestId) → ComesOn 0 7 (finishes id)
+finishes-come id (body.Ended checkout ending) passes = (tt, refl)
+finishes-come id other passes = cc
+
+pub fails-come : (id : RequestId) → ComesOn 3 9 (fails id)
+fails-come id (body.Failed checkout customer rule) passes = (tt, refl)
+fails-come id other passes = cc
+
+pub confirms-come : (id : RequestId) → ComesOn 5 10 (confirms id)
+confirms-come id (body.Confirmed checkout customer lines total) passes = (tt, refl)
+confirms-come id other passes = cc
+
+pub ships-come : (id : RequestId) → ComesOn 3 13 (ships id)
+ships-come id (body.Shipped checkout) passes = (tt, refl)
+ships-come id other passes = cc
+
+-- an end is a refusal of stock, or the end of an order
+ends-parts : (id : RequestId) (bs : List Body) → count_by (ends id) bs ≡ count_by (refuses id) bs + count_by (finishes id) bs
+ends-parts id bs = sum_by_agree (λ b. cond (ends id b) 1 0) (λ b. cond (refuses id b) 1 0 + cond (finishes id b) 1 0) each bs ∙ sum_by_plus (λ b. cond (refuses id b) 1 0) (λ b. cond (finishes id b) 1 0) bs
+  where
+    each : (b : Body) → cond (ends id b) 1 0 ≡ cond (refuses id b) 1 0 + cond (finishes id b) 1 0
+    each (body.ReserveFailed checkout key rule) = omega arith
+    each (body.Ended checkout ending) = omega arith
+    each other = omega arith
+
+-- what settles a checkout pays it, or fails it
+pub settles-parts : (id : RequestId) (bs : List Body) → count_by (settles id) bs ≡ count_by (confirms id) bs + count_by (fails id) bs
+settles-parts id bs = sum_by_agree (λ b. cond (settles id b) 1 0) (λ b. cond (confirms id b) 1 0 + cond (fails id b) 1 0) each bs ∙ sum_by_plus (λ b. cond (confirms id b) 1 0) (λ b. cond (fails id b) 1 0) bs
+  where
+    each : (b : Body) → cond (settles id b) 1 0 ≡ cond (confirms id b) 1 0 + cond (fails id b) 1 0
+    each (body.Confirmed checkout customer lines total) = omega arith
+    each (body.Failed checkout customer rule) = omega arith
+    each other = omega arith
+
+-- what pays a checkout is a payment
+pub confirms-payment : (id : RequestId) (b : Body) → confirms id b ≡ true → is_payment b ≡ true
+confirms-payment id (body.Confirmed checkout customer lines total) passes = refl
+confirms-payment id other passes = cc
+
+module _ (h : Histories) (lawful : IsLawful h) where
+  abbrev pub steps_now : ℕ → List Step
+  steps_now n = steps_at n (journal_at h n)
+
+  -- of what is made on a link no more passes one test than another, where that is so of all that the link carries
+  pub count-carried : (n : ℕ) → n < services → (k : ℕ) (test other : Body → Bool) → ((b : Body) → service_carries (Service k) b ≡ true → test b ≡ true → other b ≡ true) → count_by test (made_on (Service k) (steps_now n)) ≤ count_by other (made_on (Service k) (steps_now n))
+  count-carried n lt k test other each =
+      subst (λ bs. count_by test bs ≤ count_by other bs) (whole h lawful n lt (Service k))
+      (count-members test other (bodies_on (Service k) (journal_at h n)) (λ b here passes.
+      let m = made-of-member h lawful n (omega arith) (Service k) b here in
+      let carried = (made-as h lawful n m.event m.made).carried in
+      each b (subst (λ l. carries l b ≡ true) m.on (subst (λ x. carries m.event.link x ≡ true) m.body_is carried)) passes))
+
+  -- on link 3 only refusals end, and on link 7 only ends of orders
+  on_3 : (id : RequestId) (b : Body) → service_carries STOCK_TO_CART b ≡ true → ends id b ≡ true → refuses id b ≡ true
+  on_3 id (body.ReserveFailed checkout key rule) carried passes = passes
+  on_3 id (body.Ended checkout ending) carried passes = carried
+  on_3 id other carried passes = cc
+
+  on_7 : (id : RequestId) (b : Body) → service_carries ORDER_TO_CART b ≡ true → ends id b ≡ true → finishes id b ≡ true
+  on_7 id (body.Ended checkout ending) carried passes = passes
+  on_7 id (body.ReserveFailed checkout key rule) carried passes = carried
+  on_7 id other carried passes = cc
+
+  refuses-end : (id : RequestId) (b : Body) → refuses id b ≡ true → ends id b ≡ true
+  refuses-end id (body.ReserveFailed checkout key rule) passes = passes
+  refuses-end id other passes = cc
+
+  finishes-end : (id : RequestId) (b : Body) → finishes id b ≡ true → ends id b ≡ true
+  finishes-end id (body.Ended checkout ending) passes = passes
+  finishes-end id other passes = cc
+
+  pub refused-3 : (id : RequestId) → count_by (ends id) (made_on STOCK_TO_CART (steps_now 2)) ≡ count_by (refuses id) (made_on STOCK_TO_CART (steps_now 2))
+  refused-3 id = omega (
+    arith,
+    count-carried 2 (omega arith) 3 (ends id) (refuses id) (on_3 id),
+    count-carried 2 (omega arith) 3 (refuses id) (ends id) (λ b carried. refuses-end id b),
+  )
+
+  pub finished-7 : (id : RequestId) → count_by (ends id) (made_on ORDER_TO_CART (steps_now 3)) ≡ count_by (finishes id) (made_on ORDER_TO_CART (steps_now 3))
+  finished-7 id = omega (
+    arith,
+    count-carried 3 (omega arith) 7 (ends id) (finishes id) (on_7 id),
+    count-carried 3 (omega arith) 7 (finishes id) (ends id) (λ b carried. finishes-end id b),
+  )
+
+  module _ (settled : IsSettled h) (id : RequestId) where
+    -- what was sent on is held, or was refused
+    pub sent-on : count_by (holds_pieces id) (made_on STOCK_TO_ORDER (steps_now 2)) + count_by (ends id) (made_on STOCK_TO_CART (steps_now 2)) ≡ count_by (reserves id) (made_on CART_TO_STOCK (steps_now 0))
+    sent-on =
+        answered-is (steps_now 2) (steps-run 2 (journal_at h 2)) id
+        ∙ count-made h lawful settled 2 0 2 (omega arith) (omega arith) (omega arith) refl refl (reserves id) (reserves-come id)
+
+    -- orders took what is held
+    pub held-orders : count_by (holds_pieces id) (taken_bodies (steps_now 3)) ≡ count_by (holds_pieces id) (made_on STOCK_TO_ORDER (steps_now 2))
+    held-orders = count-made h lawful settled 3 2 4 (omega arith) (omega arith) (omega arith) refl refl (holds_pieces id) (holds-come id)
+
+    -- and invoiced it
+    pub held-invoiced : count_by (invoices id) (made_on ORDER_TO_PAYMENT (steps_now 3)) ≡ count_by (holds_pieces id) (made_on STOCK_TO_ORDER (steps_now 2))
+    held-invoiced = invoices-is-held (steps_now 3) (steps-run 3 (journal_at h 3)) id ∙ held-orders
+
+    -- so it was paid for, or was not
+    pub held-settled : count_by (confirms id) (made_on PAYMENT_TO_STOCK (steps_now 4)) + count_by (fails id) (made_on PAYMENT_TO_STOCK (steps_now 4)) ≡ count_by (holds_pieces id) (made_on STOCK_TO_ORDER (steps_now 2))
+    held-settled = sym (settles-parts id (made_on PAYMENT_TO_STOCK (steps_now 4))) ∙ settles-is-invoices (steps_now 4) (steps-run 4 (journal_at h 4)) id
+        ∙ count-made h lawful settled 4 3 5 (omega arith) (omega arith) (omega arith) refl refl (invoices id) (invoices-come id) ∙ held-invoiced
+
+    -- orders took each failure, and a shipment for each payment
+    pub failed-orders : count_by (fails id) (taken_bodies (steps_now 3)) ≡ count_by (fails id) (made_on PAYMENT_TO_STOCK (steps_now 4))
+    failed-orders =
+        count-made h lawful settled 3 4 9 (omega arith) (omega arith) (omega arith) refl refl (fails id) (fails-come id)
+        ∙ ap (count_by (fails id)) (sym (payments-9 (steps_now 4) (steps-run 4 (journal_at h 4))))
+
+    pub paid-shipments : count_by (confirms id) (taken_bodies (steps_now 5)) ≡ count_by (confirms id) (made_on PAYMENT_TO_STOCK (steps_now 4))
+    paid-shipments =
+        count-made h lawful settled 5 4 10 (omega arith) (omega arith) (omega arith) refl refl (confirms id) (confirms-come id)
+        ∙ ap (count_by (confirms id)) (payments-10 (steps_now 4) (steps-run 4 (journal_at h 4))) ∙ count-kept (confirms id) is_payment (confirms-payment id) (made_on PAYMENT_TO_STOCK (steps_now 4))
+
+    pub shipped-orders : count_by (ships id) (taken_bodies (steps_now 3)) ≡ count_by (confirms id) (made_on PAYMENT_TO_STOCK (steps_now 4))
+    shipped-orders =
+        count-made h lawful settled 3 5 13 (omega arith) (omega arith) (omega arith) refl refl (ships id) (ships-come id)
+        ∙ shipped-is (steps_now 5) (steps-run 5 (journal_at h 5)) id ∙ paid-shipments
+
+    -- orders ended what is held
+    pub ended-held : count_by (ends id) (made_on ORDER_TO_CART (steps_now 3)) ≡ count_by (holds_pieces id) (made_on STOCK_TO_ORDER (steps_now 2))
+    ended-held = omega (arith, ends-is (steps_now 3) (steps-run 3 (journal_at h 3)) id, failed-orders, shipped-orders, held-settled)
+
+    -- the cart took each refusal, and each end
+    pub refused-cart : count_by (refuses id) (taken_bodies (steps_now 0)) ≡ count_by (ends id) (made_on STOCK_TO_CART (steps_now 2))
+    refused-cart = count-made h lawful settled 0 2 3 (omega arith) (omega arith) (omega arith) refl refl (refuses id) (refuses-come id) ∙ sym (refused-3 id)
+
+    pub finished-cart : count_by (finishes id) (taken_bodies (steps_now 0)) ≡ count_by (ends id) (made_on ORDER_TO_CART (steps_now 3))
+    finished-cart = count-made h lawful settled 0 3 7 (omega arith) (omega arith) (omega arith) refl refl (finishes id) (finishes-come id) ∙ sym (finished-7 id)
+
+    -- the cart took as many ends as it sent on
+    pub ended-sent : count_by (ends id) (taken_bodies (steps_now 0)) ≡ count_by (reserves id) (made_on CART_TO_STOCK (steps_now 0))
+    ended-sent = omega (arith, ends-parts id (taken_bodies (steps_now 0)), refused-cart, finished-cart, ended-held, sent-on)

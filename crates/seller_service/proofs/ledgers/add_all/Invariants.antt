@@ -1,7 +1,0 @@
-use Rattle.std.proofs.Common.{◌≡◌, ℕ, ◌++◌, take, filter}
-use Rattle.seller_service.specs.Kept.{changes_at, is_of_seller}
-use Rattle.seller_service.proofs.ledgers.add_all.Given as goal
-
-abbrev pub invariant-loop-index : goal.invariant-loop-index
-invariant-loop-index l = (seller : ℕ) →
-    changes_at l.ledgers.entries seller ≡ changes_at l.fn.ledgers.entries seller ++ filter (is_of_seller seller) (take l.index l.changes)

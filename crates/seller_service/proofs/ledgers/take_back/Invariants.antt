@@ -1,7 +1,0 @@
-use Rattle.std.proofs.Common.{◌≡◌, ℕ, ◌-◌, length, take, count_by}
-use Rattle.seller_service.specs.Kept.{changes_at, is_of_seller}
-use Rattle.seller_service.proofs.ledgers.take_back.Given as goal
-
-abbrev pub invariant-loop-change : goal.invariant-loop-change
-invariant-loop-change l = (seller : ℕ) → let was = changes_at l.fn.ledgers.entries seller in
-    changes_at l.ledgers.entries seller ≡ take (length was - count_by (is_of_seller seller) (take l.change-index l.last)) was

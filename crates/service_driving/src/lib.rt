@@ -1,0 +1,11 @@
+//! Steps and a keeper of any service, which drive a service by its traits alone. The tests of the services
+//! take their steps by it.
+#![tactic(auto)]
+
+mod driving;
+mod keeper;
+#[cfg(test)]
+mod outs_tests;
+
+pub use driving::{drive, step};
+pub use keeper::Keeper;

@@ -1,6 +1,0 @@
-pub mod CartTrials
-pub mod StockExamples
-pub mod PaymentExamples
-pub mod OrderExamples
-pub mod CustomerExamples
-pub mod SellerExamples

@@ -1,6 +1,0 @@
-use Rattle.std.proofs.Common.{◌≡◌, ℕ, take, None, if◌then◌else◌}
-use Rattle.shipment_service.specs.Waiting.{entry_at, has_number}
-use Rattle.shipment_service.proofs.oldest.take_all.Given as goal
-
-abbrev pub invariant-loop-turn : goal.invariant-loop-turn
-invariant-loop-turn l = (n : ℕ) → entry_at l.oldest.entries n ≡ (if has_number (take l.turn-index l.turns) n then None else entry_at l.fn.oldest.entries n)

@@ -1,6 +1,0 @@
-use Rattle.std.proofs.Common.{◌≡◌, ℕ, take, None}
-use Rattle.shipment_service.specs.Waiting.{entry_at, put_at, groups_of}
-use Rattle.shipment_service.proofs.queues.pick.Given as goal
-
-abbrev pub invariant-loop-turn : goal.invariant-loop-turn
-invariant-loop-turn l = (n : ℕ) → entry_at l.picked.entries n ≡ put_at n None (groups_of l.queues.entries (take l.turn-index l.served))

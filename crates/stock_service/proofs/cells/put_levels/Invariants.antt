@@ -1,8 +1,0 @@
-use Rattle.std.proofs.Common.{◌≡◌, map}
-use Rattle.std.specs.Map.Iter.{deref}
-use Rattle.market_events.specs.CellLists.{put_each, key_cell}
-use Rattle.stock_service.specs.Cells.{level_name, levels_in}
-use Rattle.stock_service.proofs.cells.put_levels.Given as goal
-
-abbrev pub invariant-loop-key : goal.invariant-loop-key
-invariant-loop-key l = l.cells ≡ put_each (key_cell level_name (levels_in l.levels.entries)) l.fn.cells (map deref l.yielded)
