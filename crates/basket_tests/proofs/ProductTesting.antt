@@ -3,16 +3,14 @@ use Rattle.std.proofs.Common.{◌≡◌, ℕ, true, List, [], refl}
 use Rattle.market_amounts.specs.declared.keys.ProductKey.{ProductKey}
 use Rattle.market_events.specs.declared.bodies.Body.{Body}
 use Rattle.market_events.specs.declared.bodies.Body.TheVariants as body
-use Rattle.market_events.specs.declared.changes.Look.{Look}
 use Rattle.market_events.specs.declared.links.Link.{Link}
 use Rattle.market_events.specs.declared.links.Link.TheVariants as link
 use Rattle.market_events.specs.declared.requests.Ask.{Ask}
 use Rattle.market_events.specs.declared.requests.Ask.TheVariants as ask
 use Rattle.market_events.specs.declared.roles.Role.{Role}
 use Rattle.market_events.specs.Services.{fits}
-use Rattle.market_events.specs.Standing.{Stands, with_step}
+use Rattle.market_events.specs.Standing.{with_step}
 use Rattle.market_events.specs.Steps.{Step}
-use Rattle.product_service.specs.Holds.{Holds}
 
 abbrev pub asked : ℕ → Ask → Body
 asked n a = body.Asked (record { id = record { caller = 7; number = n }; ask = a })
@@ -31,9 +29,6 @@ mug = record { seller = 5; product = 10 }
 
 abbrev pub bowl : ProductKey
 bowl = record { seller = 5; product = 11 }
-
-pub stands_at_first : (kept : List (ProductKey × Look)) → Holds kept [] → Stands Role.Product Holds kept []
-stands_at_first kept held = record { run = tt; held = held }
 
 abbrev pub create : ℕ → ℕ → Ask
 create price freight = ask.Create mug price freight

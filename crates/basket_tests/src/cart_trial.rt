@@ -1,45 +1,24 @@
 //! A cart for tests, which takes changes of products and requests of one caller.
 
-ghost use Rattle.std.specs.Prelude.{◌≡◌, true, List, OnOk, OnErr};
+ghost use Rattle.std.specs.Prelude.{◌≡◌, true};
 ghost use Rattle.market_events.specs.Formed.{ask_formed, change_formed, id_formed, key_formed};
 ghost use Rattle.market_events.specs.Formed.{quantity_formed, cents_formed};
 ghost use Rattle.market_events.specs.Links.{service_by_ask, cart_node};
-ghost use Rattle.market_events.specs.Services.{fits, change_fits};
-ghost use Rattle.market_events.specs.Standing.{Stands, CanTake, with_step};
-ghost use Rattle.market_events.specs.Steps.{Step};
+ghost use Rattle.market_events.specs.Services.{change_fits};
 ghost use Rattle.basket_tests.specs.CartTrials.{IsTrial};
 
 use cart_replica::ProductCopy;
 use cart_service::Carts;
 use market_amounts::{Cents, ProductKey, Quantity, RequestId};
 use market_events::{
-    Ask, Body, Cell, CellName, Change, Link, Look, Outs, PRODUCT_TO_CART, Reply, Request, Service,
-    Tabled,
+    Ask, Body, Cell, CellName, Change, Link, Look, Outs, PRODUCT_TO_CART, Reply, Request, Tabled,
 };
-use std::alloc::{AllocError, Global};
+use service_driving::step;
+use std::alloc::Global;
 use std::process::Abort;
 use std::test::Fail;
 
 const MOST: u32 = 1000;
-
-// One step of any service.
-fn step<S: Service>(
-    service: &mut S,
-    alloc: Global,
-    from: Link,
-    body: &Body,
-) -> Result<Outs, AllocError>
-    requires { CanTake S.role S.holds service.old from body.now }
-    ensures taken { OnOk result ((steps : List Step) → Stands S.role S.holds service.old steps
-        → fits S.role steps from body.now ≡ true
-        → Stands S.role S.holds service.new (with_step S.role steps from body.now)) }
-    ensures unchanged { OnErr result ((steps : List Step) → Stands S.role S.holds service.old steps
-        → Stands S.role S.holds service.new steps) }
-{
-    let mut outs = Outs::new(alloc);
-    service.accept(from, body, &mut outs)?;
-    Ok(outs)
-}
 
 // A cart, what it shows of the products, and the number of its next request, of caller 7.
 #[derive(Drop)]

@@ -2,6 +2,7 @@
 //! from here.
 
 ghost use Rattle.std.specs.Prelude.{◌≡◌, List, true, IfOk};
+ghost use Rattle.market_events.specs.Examples.{request};
 ghost use Rattle.market_events.specs.Services.{fits};
 ghost use Rattle.market_events.specs.Standing.{Stands, CanTake, with_step};
 ghost use Rattle.market_events.specs.Steps.{Step};
@@ -9,9 +10,10 @@ ghost use Rattle.market_events.specs.Steps.{Step};
 use market_amounts::{Cents, ProductKey, RequestId};
 use market_events::{
     Ask, Body, Cell, CellName, Change, Link, Outs, PRODUCT_TO_CART, PRODUCT_TO_STOCK, Reply,
-    Request, Rule, Service, Tabled,
+    Request, Rule, Tabled,
 };
 use product_service::Products;
+use service_driving::step;
 use std::alloc::{AllocError, Global};
 use std::process::Abort;
 use std::test::Fail;
@@ -28,47 +30,27 @@ const BOWL: ProductKey = ProductKey {
     product: 11,
 };
 
-// Takes the request of caller 7 with this number, and gives what is made.
-fn step<S: Service>(
-    service: &mut S,
-    alloc: Global,
-    number: u32,
-    ask: &Ask,
-) -> Result<Outs, AllocError>
-    requires { CanTake S.role S.holds service.old LINK
-        (Body.Asked (record { id = record { caller = 7; number = number }; ask = ask.now })) }
-    ensures { let body = Body.Asked (record { id = record { caller = 7; number = number }; ask = ask.now }) in
-        IfOk result (λ _. (steps : List Step) → Stands S.role S.holds service.old steps
-        → fits S.role steps LINK body ≡ true
-        → Stands S.role S.holds service.new (with_step S.role steps LINK body)) }
+// The request of caller 7 with this number.
+fn asked(number: u32, ask: &Ask) -> Body
+    ensures { result ≡ (request 1 number ask.now).1 }
 {
     let id = RequestId { caller: 7, number };
-    let body = Body::Asked(Request { id, ask: *ask });
-    let mut outs = Outs::new(alloc);
-    service.accept(LINK, &body, &mut outs)?;
-    Ok(outs)
+    Body::Asked(Request { id, ask: *ask })
 }
 
-// Takes the request of caller 7 with this number, and gives the names that it touches, and the cells after
-// it.
+// Takes a request, and gives the names that it touches, and the cells after it.
 fn tell<S: Tabled>(
     service: &mut S,
     alloc: Global,
-    number: u32,
-    ask: &Ask,
+    body: &Body,
 ) -> Result<(Vec<CellName>, Vec<Cell>), AllocError>
-    requires { CanTake S.role S.holds service.old LINK
-        (Body.Asked (record { id = record { caller = 7; number = number }; ask = ask.now })) }
-    ensures { let body = Body.Asked (record { id = record { caller = 7; number = number }; ask = ask.now }) in
-        IfOk result (λ _. (steps : List Step) → Stands S.role S.holds service.old steps
-        → fits S.role steps LINK body ≡ true
-        → Stands S.role S.holds service.new (with_step S.role steps LINK body)) }
+    requires { CanTake S.role S.holds service.old LINK body.now }
+    ensures { IfOk result (λ _. (steps : List Step) → Stands S.role S.holds service.old steps
+        → fits S.role steps LINK body.now ≡ true
+        → Stands S.role S.holds service.new (with_step S.role steps LINK body.now)) }
 {
-    let id = RequestId { caller: 7, number };
-    let body = Body::Asked(Request { id, ask: *ask });
-    let names = service.touches(LINK, &body)?;
-    let mut outs = Outs::new(alloc);
-    service.accept(LINK, &body, &mut outs)?;
+    let names = service.touches(LINK, body)?;
+    step(service, alloc, LINK, body)?;
     let cells = service.cells()?;
     Ok((names, cells))
 }
@@ -115,9 +97,12 @@ fn a_second_creation_and_a_price_of_nothing_are_refused(rt: HostRuntime) -> Resu
     let price = Cents::try_new(1000)?;
     let freight = Cents::try_new(0)?;
     let create = Ask::Create(MUG, price, freight);
-    let first = step(&mut products, rt.alloc(), 1, &create)?;
-    let second = step(&mut products, rt.alloc(), 2, &create)?;
-    let third = step(&mut products, rt.alloc(), 3, &Ask::Price(BOWL, price))?;
+    let create_mug = asked(1, &create);
+    let first = step(&mut products, rt.alloc(), LINK, &create_mug)?;
+    let create_again = asked(2, &create);
+    let second = step(&mut products, rt.alloc(), LINK, &create_again)?;
+    let price_bowl = asked(3, &Ask::Price(BOWL, price));
+    let third = step(&mut products, rt.alloc(), LINK, &price_bowl)?;
     let created = Change::Created(price, freight);
     assert_changed(&rt, first, 1, 1, created, Reply::Created(1))?;
     assert_refused(&rt, second, 2, Rule::Exists)?;
@@ -130,10 +115,14 @@ fn versions_go_on_after_a_deletion(rt: HostRuntime) -> Result<(), Fail> {
     let price = Cents::try_new(1000)?;
     let freight = Cents::try_new(0)?;
     let create = Ask::Create(MUG, price, freight);
-    let _ = step(&mut products, rt.alloc(), 1, &create)?;
-    let second = step(&mut products, rt.alloc(), 2, &Ask::Delete(MUG))?;
-    let third = step(&mut products, rt.alloc(), 3, &Ask::Price(MUG, price))?;
-    let fourth = step(&mut products, rt.alloc(), 4, &create)?;
+    let create_mug = asked(1, &create);
+    step(&mut products, rt.alloc(), LINK, &create_mug)?;
+    let delete_mug = asked(2, &Ask::Delete(MUG));
+    let second = step(&mut products, rt.alloc(), LINK, &delete_mug)?;
+    let price_mug = asked(3, &Ask::Price(MUG, price));
+    let third = step(&mut products, rt.alloc(), LINK, &price_mug)?;
+    let create_again = asked(4, &create);
+    let fourth = step(&mut products, rt.alloc(), LINK, &create_again)?;
     let created = Change::Created(price, freight);
     assert_changed(&rt, second, 2, 2, Change::Deleted, Reply::Deleted(2))?;
     assert_refused(&rt, third, 3, Rule::Gone)?;
@@ -145,12 +134,8 @@ fn a_creation_is_told_in_a_cell(rt: HostRuntime) -> Result<(), Fail> {
     let mut products = Products::new(rt.alloc());
     let price = Cents::try_new(1000)?;
     let freight = Cents::try_new(0)?;
-    let (names, cells) = tell(
-        &mut products,
-        rt.alloc(),
-        1,
-        &Ask::Create(MUG, price, freight),
-    )?;
+    let create_mug = asked(1, &Ask::Create(MUG, price, freight));
+    let (names, cells) = tell(&mut products, rt.alloc(), &create_mug)?;
     assert_eq!(rt; names.len(), 1);
     assert_eq!(rt; names[0].table.as_slice(), b"product".as_slice());
     assert_eq!(rt; names[0].key.as_slice(), b"5:10".as_slice());

@@ -1,21 +1,19 @@
 //! What stock reserves, sells and releases, through the steps of any service.
 
-ghost use Rattle.std.specs.Prelude.{◌≡◌, List, true, IfOk};
+ghost use Rattle.std.specs.Prelude.{◌≡◌, IfOk};
 ghost use Rattle.market_events.specs.Examples.{a_line, an_id, request};
 ghost use Rattle.market_events.specs.declared.roles.Role.{Role};
-ghost use Rattle.market_events.specs.Services.{fits, reactions};
-ghost use Rattle.market_events.specs.Standing.{Stands, CanTake, with_step};
-ghost use Rattle.market_events.specs.Steps.{Step};
+ghost use Rattle.market_events.specs.Standing.{Stands};
 ghost use Rattle.basket_tests.specs.StockExamples.{four_pieces, mug_and_cup};
 ghost use Rattle.stock_service.specs.Holds.{Holds};
 
 use market_amounts::{Cents, List, ProductKey, Quantity, RequestId};
 use market_events::{
     Ask, Body, CART_TO_STOCK, Cell, Change, Link, Outs, PAYMENT_TO_STOCK, PRODUCT_TO_STOCK,
-    PayRule, PricedLine, Reply, Request, Rule, STOCK_TO_CART, STOCK_TO_ORDER, Service, StockRule,
-    Tabled,
+    PayRule, PricedLine, Reply, Request, Rule, STOCK_TO_CART, STOCK_TO_ORDER, StockRule, Tabled,
 };
-use std::alloc::{AllocError, Global};
+use service_driving::step;
+use std::alloc::Global;
 use std::test::Fail;
 use stock_service::Stocks;
 
@@ -33,26 +31,6 @@ const CHECKOUT: RequestId = RequestId {
     caller: 7,
     number: 8,
 };
-
-// What a service makes of a body.
-fn step<S: Service>(
-    service: &mut S,
-    alloc: Global,
-    from: Link,
-    body: &Body,
-) -> Result<Outs, AllocError>
-    requires { CanTake S.role S.holds service.old from body.now }
-    ensures made { IfOk result (λ outs. (steps : List Step) → Stands S.role S.holds service.old steps
-        → fits S.role steps from body.now ≡ true
-        → outs ≡ reactions S.role steps from body.now) }
-    ensures taken { IfOk result (λ outs. (steps : List Step) → Stands S.role S.holds service.old steps
-        → fits S.role steps from body.now ≡ true
-        → Stands S.role S.holds service.new (with_step S.role steps from body.now)) }
-{
-    let mut outs = Outs::new(alloc);
-    service.accept(from, body, &mut outs)?;
-    Ok(outs)
-}
 
 // A product that is new.
 fn created(key: ProductKey) -> Result<Body, Fail>

@@ -1,5 +1,5 @@
 -- A copy of the changes that steps took: which change can be taken next, and what a step leaves that takes none.
-use Rattle.std.proofs.Common.{◌≡◌, ℕ, ◌+◌, true, List, [], ◌∷◌, ◌++◌, Option, None, ap, sym, subst, arith}
+use Rattle.std.proofs.Common.{◌≡◌, ℕ, ◌+◌, true, List, [], ◌∷◌, ◌++◌, None, ap, sym, subst, arith}
 use Rattle.std.proofs.Math.Bool.{Bool-set}
 use Rattle.std.proofs.Math.Logic.{∥∥₁_elim}
 use Rattle.std.proofs.Math.Nat.{ℕ_set}
@@ -19,7 +19,7 @@ use Rattle.market_events.specs.Services.{fits, change_fits}
 use Rattle.market_events.specs.Standing.{Stands, CanTake}
 use Rattle.market_events.specs.Steps.{Step}
 use Rattle.market_events.proofs.Steps.Taken.{changes_taken-same, change_fits-can, change_fits-version}
-use Rattle.cart_replica.specs.Copy.{look_at, IsCopyOf}
+use Rattle.cart_replica.specs.Copy.{IsCopyOf}
 
 -- the copy, where a step takes no change
 pub copied_still : (entries : List (ProductKey × Look)) (steps : List Step) (s : Step) → IsCopyOf entries (changes_taken steps) → change_in s.body ≡ None

@@ -1,21 +1,19 @@
 -- What one more request leaves of the baskets: the steps with it leave what the request leaves of the sums of the steps.
-use Rattle.std.proofs.Common.{◌≡◌, ℕ, Bool, true, false, cond, ◌&&◌, ◌||◌, ◌==◌, not, nat_le, List, [], ◌∷◌, ◌++◌, Option, Some, None, is_some, length, filter, option_map, if◌then◌else◌, refl, ap, sym, ◌∙◌, eqb-true, arith}
+use Rattle.std.proofs.Common.{◌≡◌, ℕ, Bool, true, false, cond, ◌&&◌, ◌==◌, not, nat_le, List, [], ◌∷◌, ◌++◌, Option, Some, None, is_some, length, option_map, if◌then◌else◌, refl, ap, sym, ◌∙◌, eqb-true, arith}
 use Rattle.std.specs.List.{list_any}
 use Rattle.std.specs.BTreeMap.{insert_entry}
 use Rattle.std.proofs.lemmas.Bool.Decides.{nat_tests}
 use Rattle.market_amounts.specs.declared.keys.ProductKey.{ProductKey}
 use Rattle.market_amounts.specs.declared.keys.RequestId.{RequestId}
-use Rattle.market_events.specs.declared.bodies.Body.{Body}
 use Rattle.market_events.specs.declared.bodies.Body.TheVariants as body
 use Rattle.market_events.specs.declared.changes.Look.{Look}
 use Rattle.market_events.specs.declared.changes.Look.TheVariants.{Unknown, Gone, Live}
-use Rattle.market_events.specs.declared.links.Link.{Link}
 use Rattle.market_events.specs.declared.replies.Reply.TheVariants as reply
 use Rattle.market_events.specs.declared.replies.Rule.TheVariants as rule
 use Rattle.market_events.specs.declared.replies.UndoneRule.TheVariants as undone
 use Rattle.market_events.specs.declared.requests.Ask.{Ask}
 use Rattle.market_events.specs.declared.requests.Ask.TheVariants as ask
-use Rattle.market_events.specs.Carts.{Held, CartSums, is_refusal, is_reserve, is_accepted, is_sent_on, basket_of, has_key, line_rows, remove_rows, checkout_rows, first_gone, cart_asked, cart_sums}
+use Rattle.market_events.specs.Carts.{Held, is_refusal, is_reserve, is_accepted, is_sent_on, basket_of, has_key, line_rows, remove_rows, checkout_rows, first_gone, cart_asked, cart_sums}
 use Rattle.market_events.specs.Links.{cart_node}
 use Rattle.market_events.specs.Requests.{same_key}
 use Rattle.market_events.specs.Steps.{Step, Sending, key_cmp, told, refused}
@@ -24,7 +22,7 @@ use Rattle.market_events.proofs.Steps.Baskets.{basket_customer, basket_of-line, 
 use Rattle.market_events.proofs.Steps.Carts.{body_sets_basket}
 use Rattle.market_events.proofs.Values.Lists.{or_parts, and_true, and_false}
 use Rattle.market_events.proofs.Values.Same.{same_key-swap}
-use Rattle.cart_service.specs.Tables.{lines_at, without, undone_by_basket, is_set, is_emptied, ChangesOnly, basket_left}
+use Rattle.cart_service.specs.Tables.{lines_at, without, is_set, is_emptied, ChangesOnly, basket_left}
 
 -- rows that tell no refusal, and rows that send a checkout on
 abbrev accepts : List Sending → Bool

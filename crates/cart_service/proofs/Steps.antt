@@ -1,5 +1,5 @@
 -- One more step keeps what the cart holds, and makes what is defined.
-use Rattle.std.proofs.Common.{◌≡◌, ℕ, ◌+◌, Bool, true, false, ◌==◌, ◌&&◌, List, [], ◌∷◌, ◌++◌, None, filter_map, Result, Ok, Err, OnOk, OnErr, refl, ap, sym, ◌∙◌, arith}
+use Rattle.std.proofs.Common.{◌≡◌, ℕ, true, false, List, [], ◌∷◌, ◌++◌, None, filter_map, Result, Ok, Err, OnOk, OnErr, refl, ap, sym, ◌∙◌}
 use Rattle.std.proofs.Math.Logic.{∥∥₁_elim}
 use Rattle.market_amounts.specs.declared.keys.ProductKey.{ProductKey}
 use Rattle.market_amounts.specs.declared.keys.RequestId.{RequestId}
@@ -10,9 +10,8 @@ use Rattle.market_events.specs.declared.bodies.StockRule.{StockRule}
 use Rattle.market_events.specs.declared.changes.Change.{Change}
 use Rattle.market_events.specs.declared.changes.Look.{Look}
 use Rattle.market_events.specs.declared.links.Link.{Link}
-use Rattle.market_events.specs.declared.requests.Ask.{Ask}
 use Rattle.market_events.specs.declared.requests.Request.{Request}
-use Rattle.market_events.specs.Carts.{Held, CartSums, changes_taken, basket_of, is_accepted, is_sent_on, cart_asked, cart_rows, cart_sums}
+use Rattle.market_events.specs.Carts.{Held, changes_taken, is_accepted, is_sent_on, cart_asked, cart_rows, cart_sums}
 use Rattle.market_events.specs.Copies.{ProductChange, copy_of}
 use Rattle.market_events.specs.Products.{change_in}
 use Rattle.market_events.specs.declared.roles.Role.{Role}

@@ -27,15 +27,15 @@ use Rattle.market_events.specs.declared.roles.Role.{Role}
 use Rattle.market_events.specs.Services.{IsRunOf}
 use Rattle.market_events.specs.Standing.{Stands}
 use Rattle.market_events.specs.Steps.{Step, taken_bodies, key_cmp}
-use Rattle.market_events.specs.WellFormed.{IsId, IsKey, id_max}
+use Rattle.market_events.specs.WellFormed.{id_max}
 use Rattle.market_events.proofs.Steps.Baskets.{find-basket_of}
 use Rattle.market_events.proofs.NamedCells.Named.{value_at}
 use Rattle.market_events.proofs.NamedCells.Spelled.{IsBasketKey}
 use Rattle.market_events.proofs.Values.Formed.{key_decides}
 use Rattle.market_events.proofs.Values.Keys.{eq_by_key_cmp, find-lookup}
-use Rattle.market_events.proofs.NamedCells.Keyed.{is_among, HasAll, same_line_of, basket_naming, cell_of_key, cells_by-each, cells_by-same, alike, last_some-append, entries_told}
+use Rattle.market_events.proofs.NamedCells.Keyed.{is_among, HasAll, same_line_of, basket_naming, cell_of_key, cells_by-each, alike, last_some-append, entries_told}
 use Rattle.market_events.proofs.Values.Lists.{and_both, or_right}
-use Rattle.market_events.proofs.Values.Same.{same_key-true, same_key-self, same_key-swap}
+use Rattle.market_events.proofs.Values.Same.{same_key-true, same_key-swap}
 use Rattle.market_events.proofs.Steps.Taken.{taken_formed}
 use Rattle.cart_replica.specs.CopyCells.{copy_cells, copy_table}
 use Rattle.cart_replica.proofs.CopyCells.{copy_cells-same, changes_taken-keys}

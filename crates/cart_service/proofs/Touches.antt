@@ -1,14 +1,12 @@
 -- The names that a body touches cover what a step with it changes.
-use Rattle.std.proofs.Common.{◌≡◌, ℕ, ◌≤◌, Bool, true, false, cond, ◌&&◌, ◌||◌, ◌==◌, List, [], ◌∷◌, ◌++◌, length, map, filter_map, Option, Some, None, is_some, unwrap_or, if◌then◌else◌, refl, ap, ap₂, sym, ◌∙◌, arith, eqb-true, eq-eqb, subst}
+use Rattle.std.proofs.Common.{◌≡◌, ℕ, ◌≤◌, Bool, true, false, cond, ◌&&◌, ◌||◌, ◌==◌, List, [], ◌∷◌, ◌++◌, length, map, filter_map, Option, Some, None, is_some, if◌then◌else◌, refl, ap, ap₂, sym, ◌∙◌, arith, eqb-true, eq-eqb, subst}
 use Rattle.std.proofs.Math.Logic.{∥∥₁_elim}
 use Rattle.std.specs.BTreeMap.{is_at}
 use Rattle.std.specs.Coded.{le_prop}
-use Rattle.std.specs.List.{cons_option, list_any, AllByRecursion, IsDistinct}
+use Rattle.std.specs.List.{list_any, AllByRecursion, IsDistinct}
 use Rattle.std.specs.Map.{keys_of}
 use Rattle.std.specs.Option.{option_or}
-use Rattle.std.specs.List.Sorted.{IsStrictlySortedBy}
 use Rattle.std.proofs.lemmas.Bool.{both_ways}
-use Rattle.std.proofs.lemmas.Bool.Decides.{nat_tests}
 use Rattle.std.proofs.lemmas.List.{length-map}
 use Rattle.std.proofs.lemmas.Map.Keys.{IsDistinct-from_sorted, IsDistinct-prop}
 use Rattle.cart_replica.specs.CopyCells.{copy_table}
@@ -16,17 +14,15 @@ use Rattle.market_amounts.specs.declared.keys.ProductKey.{ProductKey}
 use Rattle.market_amounts.specs.declared.keys.RequestId.{RequestId}
 use Rattle.market_events.specs.declared.bodies.Body.{Body}
 use Rattle.market_events.specs.declared.bodies.Body.TheVariants as body
-use Rattle.market_events.specs.declared.cells.Cell.{Cell}
 use Rattle.market_events.specs.declared.cells.CellName.{CellName}
 use Rattle.market_events.specs.declared.links.Link.{Link}
 use Rattle.market_events.specs.declared.requests.Ask.{Ask}
 use Rattle.market_events.specs.declared.requests.Ask.TheVariants as ask
 use Rattle.market_events.specs.declared.requests.Request.{Request}
 use Rattle.market_events.specs.declared.changes.Change.{Change}
-use Rattle.market_events.specs.Carts.{Held, changes_taken, is_accepted, is_sent_on, asked_leaves, body_leaves, leaves, joined, basket_at, basket_of}
-use Rattle.market_events.specs.CellLists.{cells_by}
+use Rattle.market_events.specs.Carts.{Held, changes_taken, is_accepted, is_sent_on, body_leaves, leaves, joined, basket_at, basket_of}
 use Rattle.market_events.specs.CellNames.{basket_name, key_name}
-use Rattle.market_events.specs.Cells.{cells_of, all_cells, look_cells, basket_cell, held_text}
+use Rattle.market_events.specs.Cells.{cells_of, look_cells, held_text}
 use Rattle.market_events.specs.Copies.{last_some}
 use Rattle.market_events.specs.Formed.{body_formed, key_formed, id_formed, change_formed}
 use Rattle.market_events.specs.Products.{change_in}
@@ -34,10 +30,10 @@ use Rattle.market_events.specs.Requests.{same_key}
 use Rattle.market_events.specs.declared.roles.Role.{Role}
 use Rattle.market_events.specs.Services.{IsRunOf, fits}
 use Rattle.market_events.specs.Standing.{Stands, step_of, with_step, same_name, is_named, value_of, CanTake, may_change, most_by_ask, most_touched}
-use Rattle.market_events.specs.Steps.{Step, taken_bodies, key_cmp}
+use Rattle.market_events.specs.Steps.{Step, key_cmp}
 use Rattle.market_events.proofs.Steps.Baskets.{find-basket_of, is_sorted-basket_of}
 use Rattle.market_events.proofs.Steps.Carts.{basket_at-push, basket_at-push-same}
-use Rattle.market_events.proofs.NamedCells.Named.{value_at, same_name-same}
+use Rattle.market_events.proofs.NamedCells.Named.{value_at}
 use Rattle.market_events.proofs.NamedCells.Spelled.{IsBasketKey}
 use Rattle.market_events.proofs.Values.Keys.{eq_by_key_cmp, find-lookup, sorted-of}
 use Rattle.market_events.proofs.NamedCells.Keyed.{is_among, same_line_of, basket_naming, named_list, names_distinct, alike, covers_told}
@@ -50,7 +46,7 @@ use Rattle.market_events.proofs.NamedCells.Touched.{named_none, one_may_change, 
 use Rattle.cart_replica.proofs.CopyCells.{look_cells-push, changes_taken-keys}
 use Rattle.cart_replica.proofs.Names.{one_distinct, none_distinct}
 use Rattle.cart_replica.proofs.Taking.{looks_still}
-use Rattle.cart_service.specs.Cells.{basket_table, keys_in, names_in, asked_names, names_touched, line_held}
+use Rattle.cart_service.specs.Cells.{basket_table, keys_in, asked_names, names_touched, line_held}
 use Rattle.cart_service.specs.Holds.{Holds}
 use Rattle.cart_service.specs.Tables.{lines_at, CartTables}
 use Rattle.cart_service.proofs.TableCells.{text_by, lines_asked, basket_cell-by, steps_all, steps_within, found_key, keys_among, line_cells, cart_cells-parts}

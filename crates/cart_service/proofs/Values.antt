@@ -1,5 +1,5 @@
 -- The value at a name is that of the steps.
-use Rattle.std.proofs.Common.{◌≡◌, ℕ, ◌<◌, ◌^◌, true, List, [], ◌∷◌, Option, Some, None, is_some, refl, ap, ap₂, sym, subst, ◌∙◌, arith}
+use Rattle.std.proofs.Common.{◌≡◌, ℕ, ◌<◌, ◌^◌, true, List, [], Option, Some, None, is_some, ap, sym, subst, ◌∙◌, arith}
 use Rattle.std.specs.Fmt.{decimal}
 use Rattle.std.specs.Option.{option_or}
 use Rattle.cart_replica.specs.CopyCells.{copy_table}

@@ -16,6 +16,7 @@ use Rattle.market_events.specs.declared.replies.Rule.TheVariants as rule
 use Rattle.market_events.specs.declared.requests.Ask.TheVariants as ask
 use Rattle.market_events.specs.Examples.{mug, cup, basket, an_id, makes, quiet, request, answer, refusal, mug_reserved, mug_invoice, mug_paid}
 use Rattle.market_events.specs.ExamplesOrder.{mug_invoiced, two_lines, two_invoices, no_payment, undone}
+use Rattle.market_events.specs.Links.{order_node}
 use Rattle.market_events.specs.Services.{Follows, fits, answers}
 use Rattle.market_events.specs.Steps.{Step}
 use Rattle.checkout_tests.specs.OrderExamples.{greatest_line, greatest_lines, item_for, two_shipped, strange_cup}
@@ -23,11 +24,11 @@ use Rattle.market_events.specs.declared.roles.Role.{Role}
 
 -- a request for an order that there is
 abbrev pub asks : ℕ → RequestId → OrderStatus → ℕ → Step
-asks number id status total = makes (request 3 number (ask.Order id)) (answer 3 number (reply.OrderState status total) ∷ [])
+asks number id status total = makes (request order_node number (ask.Order id)) (answer order_node number (reply.OrderState status total) ∷ [])
 
 -- and for one that there is not
 abbrev pub asks_none : Step
-asks_none = makes (request 3 9 (ask.Order basket)) (refusal 3 9 rule.NoOrder ∷ [])
+asks_none = makes (request order_node 9 (ask.Order basket)) (refusal order_node 9 rule.NoOrder ∷ [])
 
 pub follows_asks_none : Follows Role.Order [] asks_none
 unfolding fits answers

@@ -8,6 +8,7 @@ use Rattle.market_events.specs.declared.links.Link.TheVariants as link
 use Rattle.market_events.specs.declared.links.TheConstants.{ORDER_TO_PAYMENT}
 use Rattle.market_events.specs.Examples.{an_id, mug_invoice}
 use Rattle.market_events.specs.ExamplesPayment.{free_lines}
+use Rattle.market_events.specs.Links.{payment_node}
 use Rattle.market_events.specs.Services.{fits}
 use Rattle.market_events.specs.Standing.{with_step}
 use Rattle.market_events.specs.Steps.{Step}
@@ -16,7 +17,7 @@ use Rattle.checkout_tests.specs.PaymentExamples.{card_asked, with_limit}
 use Rattle.market_events.specs.declared.roles.Role.{Role}
 
 abbrev pub lane : Link
-lane = link.Asked 7 4
+lane = link.Asked 7 payment_node
 
 abbrev pub orders : Link
 orders = ORDER_TO_PAYMENT

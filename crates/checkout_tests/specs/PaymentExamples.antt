@@ -6,6 +6,7 @@ use Rattle.market_events.specs.declared.links.Link.TheVariants as link
 use Rattle.market_events.specs.declared.requests.Ask.TheVariants as ask
 use Rattle.market_events.specs.Examples.{an_id}
 use Rattle.market_events.specs.declared.roles.Role.{Role}
+use Rattle.market_events.specs.Links.{payment_node}
 use Rattle.market_events.specs.Standing.{with_step}
 use Rattle.market_events.specs.Steps.{Step}
 
@@ -15,4 +16,4 @@ card_asked number limit = body.Asked (record { id = an_id 7 number; ask = ask.Ca
 
 -- a card with this limit was set
 abbrev pub with_limit : ℕ → List Step
-with_limit limit = with_step Role.Payment [] (link.Asked 7 4) (card_asked 3 limit)
+with_limit limit = with_step Role.Payment [] (link.Asked 7 payment_node) (card_asked 3 limit)

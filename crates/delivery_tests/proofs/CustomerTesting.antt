@@ -8,6 +8,7 @@ use Rattle.market_events.specs.declared.links.Link.{Link}
 use Rattle.market_events.specs.declared.links.Link.TheVariants as link
 use Rattle.market_events.specs.declared.requests.Ask.TheVariants as ask
 use Rattle.market_events.specs.Examples.{an_id}
+use Rattle.market_events.specs.Links.{customer_node}
 use Rattle.market_events.specs.Services.{fits}
 use Rattle.market_events.specs.Standing.{Stands, CanTake, with_step}
 use Rattle.market_events.specs.Steps.{Step}
@@ -24,7 +25,7 @@ abbrev pub asked : RequestId → Body
 asked id = body.Asked (record { id = id; ask = ask.Customer 7 })
 
 abbrev pub lane : Link
-lane = link.Asked 5 6
+lane = link.Asked 5 customer_node
 
 pub first_fits : fits Role.Customer [] payments (payment 1) ≡ true
 unfolding fits

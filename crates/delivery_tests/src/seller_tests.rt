@@ -1,21 +1,20 @@
 //! What sellers show at a dashboard, through the steps of any service.
 
-ghost use Rattle.std.specs.Prelude.{◌≡◌, List, true, [], ◌∷◌, IfOk};
+ghost use Rattle.std.specs.Prelude.{◌≡◌, [], ◌∷◌, IfOk};
 ghost use Rattle.market_events.specs.Examples.{a_line, mug, request};
 ghost use Rattle.market_events.specs.ExamplesSeller.{base_invoiced, base_shipped, lines_of_8};
 ghost use Rattle.market_events.specs.declared.roles.Role.{Role};
-ghost use Rattle.market_events.specs.Services.{fits, reactions};
-ghost use Rattle.market_events.specs.Standing.{Stands, CanTake, with_step};
-ghost use Rattle.market_events.specs.Steps.{Step};
+ghost use Rattle.market_events.specs.Standing.{Stands};
 ghost use Rattle.seller_service.specs.Holds.{Holds};
 
 use market_amounts::{Cents, List, ProductKey, Quantity, RequestId};
 use market_events::{
     Ask, Body, Cell, CellName, EntryRow, Item, Link, ORDER_TO_SELLER, OrderStatus, Outs,
-    PAYMENT_TO_SELLER, PayRule, PricedLine, Reply, Request, SHIPMENT_TO_SELLER, Service, Tabled,
+    PAYMENT_TO_SELLER, PayRule, PricedLine, Reply, Request, SHIPMENT_TO_SELLER, Tabled,
 };
 use seller_service::Sellers;
-use std::alloc::{AllocError, Global};
+use service_driving::step;
+use std::alloc::Global;
 use std::test::Fail;
 
 const MUG: ProductKey = ProductKey {
@@ -32,25 +31,6 @@ const SECOND: RequestId = RequestId {
     caller: 7,
     number: 8,
 };
-
-// What a service makes of a body.
-fn step<S: Service>(
-    service: &mut S,
-    alloc: Global,
-    from: Link,
-    body: &Body,
-) -> Result<Outs, AllocError>
-    requires { CanTake S.role S.holds service.old from body.now }
-    ensures made { IfOk result (λ outs. (steps : List Step) → Stands S.role S.holds service.old steps
-        → fits S.role steps from body.now ≡ true → outs ≡ reactions S.role steps from body.now) }
-    ensures stands { IfOk result (λ outs. (steps : List Step) → Stands S.role S.holds service.old steps
-        → fits S.role steps from body.now ≡ true
-        → Stands S.role S.holds service.new (with_step S.role steps from body.now)) }
-{
-    let mut outs = Outs::new(alloc);
-    service.accept(from, body, &mut outs)?;
-    Ok(outs)
-}
 
 // A request for the dashboard of a seller.
 fn asked(number: u32, seller: u32) -> Body

@@ -1,18 +1,15 @@
 //! What shipments tell and deliver, through the steps of any service.
 
-ghost use Rattle.std.specs.Prelude.{◌≡◌, List, true, map, IfOk};
+ghost use Rattle.std.specs.Prelude.{◌≡◌, map, IfOk};
 ghost use Rattle.market_events.specs.Examples.{an_id};
 ghost use Rattle.market_events.specs.ExamplesShipment.{piece_of, deliver};
-ghost use Rattle.market_events.specs.declared.roles.Role.{Role};
-ghost use Rattle.market_events.specs.Services.{fits};
-ghost use Rattle.market_events.specs.Standing.{Stands, CanTake, with_step};
-ghost use Rattle.market_events.specs.Steps.{Step};
 
 use market_amounts::{Cents, List, ProductKey, Quantity, RequestId};
 use market_events::{
     Ask, Body, Cell, CellName, Item, Link, Outs, PAYMENT_TO_SHIPMENT, PricedLine, Reply, Request,
-    SHIPMENT_TO_CUSTOMER, SHIPMENT_TO_ORDER, SHIPMENT_TO_SELLER, Service, Tabled,
+    SHIPMENT_TO_CUSTOMER, SHIPMENT_TO_ORDER, SHIPMENT_TO_SELLER, Tabled,
 };
+use service_driving::step;
 use shipment_service::Shipments;
 use std::alloc::{AllocError, Global};
 use std::process::Abort;
@@ -84,23 +81,6 @@ const MUGS: [ProductKey; 1] = [ProductKey {
 }];
 
 const FROM_LANE: Link = Link::Asked(7, 5);
-
-// What a service makes of a body.
-fn step<S: Service>(
-    service: &mut S,
-    alloc: Global,
-    from: Link,
-    body: &Body,
-) -> Result<Outs, AllocError>
-    requires { CanTake S.role S.holds service.old from body.now }
-    ensures { IfOk result (λ outs. (steps : List Step) → Stands S.role S.holds service.old steps
-        → fits S.role steps from body.now ≡ true
-        → Stands S.role S.holds service.new (with_step S.role steps from body.now)) }
-{
-    let mut outs = Outs::new(alloc);
-    service.accept(from, body, &mut outs)?;
-    Ok(outs)
-}
 
 // A checkout of caller 7.
 fn checkout(number: u32) -> RequestId

@@ -1,6 +1,5 @@
 -- One request carried through the eight services, body by body, by the steps that they took.
-use Rattle.std.specs.Prelude.{◌≡◌, ℕ, ◌+◌, ◌<◌, ◌==◌, Bool, true, false, List, [], ◌∷◌, ◌++◌, length}
-use Rattle.std.specs.Prelude.{if◌then◌else◌}
+use Rattle.std.specs.Prelude.{◌≡◌, ℕ, ◌+◌, ◌<◌, Bool, true, false, List, [], ◌∷◌, ◌++◌, length}
 use Rattle.std.specs.List.{list_any}
 use Rattle.market_amounts.specs.declared.keys.RequestId.{RequestId}
 use Rattle.market_events.specs.declared.bodies.Body.{Body}
@@ -9,8 +8,7 @@ use Rattle.market_events.specs.declared.bodies.Item.{Item}
 use Rattle.market_events.specs.declared.links.Link.{Link}
 use Rattle.market_events.specs.declared.links.Link.TheVariants.{Service, Asked}
 use Rattle.market_events.specs.declared.requests.Request.{Request}
-use Rattle.market_events.specs.Links.{cart_node, product_node, stock_node, order_node, payment_node}
-use Rattle.market_events.specs.Links.{shipment_node, customer_node, service_by_ask, receiver_of}
+use Rattle.market_events.specs.Links.{service_by_ask, receiver_of}
 use Rattle.market_events.specs.Requests.{lane_of, same_id}
 use Rattle.market_events.specs.declared.roles.Role.{Role}
 use Rattle.market_events.specs.Services.{answers, fits, IsRunOf, most_steps}

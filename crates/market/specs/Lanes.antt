@@ -1,7 +1,5 @@
 -- What the lanes keep, as a list, and how they find it.
 use Rattle.std.specs.Prelude.{◌≡◌, ℕ, ◌<◌, List, Option, ◌==◌, find, count_by, position, slice_index}
-use Rattle.std.specs.Ordering.{nat_cmp, ordering_then}
-use Rattle.std.specs.declared.cmp.Ordering.{Ordering}
 use Rattle.std.specs.BTreeMap.{is_at}
 use Rattle.std.specs.List.{AllByRecursion}
 use Rattle.std.specs.Map.{lookup}

@@ -11,5 +11,4 @@ pub mod Hand
 pub mod Words
 pub mod Statuses
 pub mod Runs
-pub mod Places
 pub mod Services

@@ -1,12 +1,9 @@
 -- The output of a run, and what a call adds to a sink.
-use Rattle.std.specs.Prelude.{◌≡◌, ℕ, ◌<◌, Bool, true, false, List, ◌∷◌, ◌++◌, Option, take, length}
+use Rattle.std.specs.Prelude.{◌≡◌, ℕ, ◌<◌, List, ◌∷◌, ◌++◌, Option, take, length}
 use Rattle.std.specs.Prelude.{option_map, codes, []}
 use Rattle.std.specs.Fmt.{decimal}
 use Rattle.std.specs.List.{count_by, flat_map}
-use Rattle.market_amounts.specs.declared.keys.RequestId.{RequestId}
 use Rattle.market_events.specs.declared.requests.Request.{Request}
-use Rattle.market_events.specs.declared.replies.Reply.{Reply}
-use Rattle.market_events.specs.declared.replies.Reply.TheVariants as reply
 use Rattle.market_events.specs.Texts.{text_of_reply}
 use Rattle.market.specs.declared.lanes.Kept.{Kept}
 use Rattle.market.specs.Once.{kept_of, answer_kept}

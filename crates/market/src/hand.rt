@@ -65,7 +65,7 @@ impl Hand {
         ensures answered { IfOk result (λ reply. (given : List Request) → HandStands self.old given
             → reply ≡ answer_kept (kept_replies (given ++ request.now ∷ [])) request.now) }
         ensures formed { IfOk result IsReply }
-        ensures on { OnOk result ((given : List Request) → HandStands self.old given
+        ensures stands_on { OnOk result ((given : List Request) → HandStands self.old given
             → HandStands self.new (given ++ request.now ∷ [])) }
     {
         self.take(request)?;

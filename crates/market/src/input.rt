@@ -26,7 +26,7 @@ pub enum InputEnd {
 
 /// All bytes of a source, of which at most one more is taken than an input may have.
 pub fn read_input<S: Source>(alloc: Global, input: &mut S) -> Result<Vec<u8>, InputEnd>
-    ensures all { IfOk result (λ bytes. Takes (S.left input.old) (S.left input.new) bytes.items) }
+    ensures takes_all { IfOk result (λ bytes. Takes (S.left input.old) (S.left input.new) bytes.items) }
     ensures at_end { OnOk result ((all : List ℕ) → S.left input.new ≡ Some all → all ≡ []) }
     ensures within { IfOk result (λ bytes. vec_len bytes ≤ MOST_BYTES) }
     ensures too_long { result ≡ Err InputEnd.TooLong → (bytes : List ℕ) × (length bytes ≡ MOST_BYTES + 1)

@@ -12,13 +12,12 @@ ghost use Rattle.market.specs.Carrying.{Taken, with_taken, CanPass, made_of, pas
 ghost use Rattle.market.specs.Carrying.{request_fits, request_answers, with_request, steps_taken};
 ghost use Rattle.market_history.specs.Blocks.{role_at};
 ghost use Rattle.market_history.specs.Sequential.{acts_after, sequential_reply, reply_told};
-ghost use Rattle.market.specs.Places.{role_of};
 ghost use Rattle.market.specs.Services.{StandFor, Serves, IsNext};
 
 use cart_service::Carts;
 use customer_service::Customers;
 use market_events::{
-    Body, LANES, Link, Node, Outs, Reply, Request, Service, receiver_of, service_of,
+    Body, LANES, Link, Node, Outs, Reply, Request, Role, Service, receiver_of, service_of,
 };
 use order_service::Orders;
 use payment_service::Payments;
@@ -29,33 +28,11 @@ use std::alloc::{AllocError, Global};
 use std::collections::VecDeque;
 use stock_service::Stocks;
 
-// The services by name.
-#[derive(Clone, Copy)]
-enum Place {
-    Cart,
-    Product,
-    Stock,
-    Order,
-    Payment,
-    Shipment,
-    Customer,
-    Seller,
-}
-
-// The service with this number; above the last one there is none.
-fn place_of(service: Node) -> Place
-    ensures { role_of result ≡ role_at service }
+// The service of this node; a node above the services counts as the last one.
+fn role_of(node: Node) -> Role
+    ensures { result ≡ role_at node }
 {
-    match service.get() {
-        0 => Place::Cart,
-        1 => Place::Product,
-        2 => Place::Stock,
-        3 => Place::Order,
-        4 => Place::Payment,
-        5 => Place::Shipment,
-        6 => Place::Customer,
-        _ => Place::Seller,
-    }
+    Role::of(node).unwrap_or(Role::Seller)
 }
 
 /// The eight services, each with its own tables.
@@ -101,7 +78,7 @@ impl Services {
             → IsNext requests request.now
             → reply ≡ sequential_reply (acts_after no_acts requests) request.now) }
         ensures formed { IfOk result IsReply }
-        ensures on { OnOk result ((requests : List Request) → Serves self.old requests
+        ensures serves_on { OnOk result ((requests : List Request) → Serves self.old requests
             → IsNext requests request.now
             → Serves self.new (requests ++ request.now ∷ [])) }
     {
@@ -119,7 +96,7 @@ impl Services {
         ensures made { IfOk result (λ made. (taken : Taken) → StandFor self.old taken
             → request_fits taken request.now ≡ true
             → made ≡ request_answers taken request.now) }
-        ensures on { OnOk result ((taken : Taken) → StandFor self.old taken
+        ensures stands_on { OnOk result ((taken : Taken) → StandFor self.old taken
             → request_fits taken request.now ≡ true
             → StandFor self.new (with_request taken request.now)) }
     {
@@ -139,7 +116,8 @@ impl Services {
         ensures told { IfOk result (λ reply. (taken : Taken) (trace : List (Link × Body))
             → StandFor self.old taken → IsTrace taken made trace
             → reply ≡ last_some reply_told trace) }
-        ensures on { OnOk result ((taken : Taken) (trace : List (Link × Body)) → StandFor self.old taken
+        ensures stands_on { OnOk result ((taken : Taken) (trace : List (Link × Body))
+            → StandFor self.old taken
             → IsTrace taken made trace
             → StandFor self.new (all_passed taken trace)) }
     {
@@ -161,7 +139,8 @@ impl Services {
         ensures made { IfOk result (λ made. (taken : Taken) → StandFor self.old taken
             → CanPass taken (link, body.now)
             → made ≡ made_of taken (link, body.now)) }
-        ensures on { OnOk result ((taken : Taken) → StandFor self.old taken → CanPass taken (link, body.now)
+        ensures stands_on { OnOk result ((taken : Taken) → StandFor self.old taken
+            → CanPass taken (link, body.now)
             → StandFor self.new (passed taken (link, body.now))) }
     {
         match link {
@@ -177,20 +156,20 @@ impl Services {
         ensures made { IfOk result (λ made. (taken : Taken) → StandFor self.old taken
             → fits (role_at service) (steps_taken taken (role_at service)) from body.now ≡ true
             → made ≡ answers (role_at service) (steps_taken taken (role_at service)) from body.now) }
-        ensures on { OnOk result ((taken : Taken) → StandFor self.old taken
+        ensures stands_on { OnOk result ((taken : Taken) → StandFor self.old taken
             → fits (role_at service) (steps_taken taken (role_at service)) from body.now ≡ true
             → StandFor self.new (with_taken taken (role_at service) from body.now)) }
     {
         let mut made = Outs::new(self.alloc);
-        match place_of(service) {
-            Place::Cart => self.carts.accept(from, body, &mut made)?,
-            Place::Product => self.products.accept(from, body, &mut made)?,
-            Place::Stock => self.stocks.accept(from, body, &mut made)?,
-            Place::Order => self.orders.accept(from, body, &mut made)?,
-            Place::Payment => self.payments.accept(from, body, &mut made)?,
-            Place::Shipment => self.shipments.accept(from, body, &mut made)?,
-            Place::Customer => self.customers.accept(from, body, &mut made)?,
-            Place::Seller => self.sellers.accept(from, body, &mut made)?,
+        match role_of(service) {
+            Role::Cart => self.carts.accept(from, body, &mut made)?,
+            Role::Product => self.products.accept(from, body, &mut made)?,
+            Role::Stock => self.stocks.accept(from, body, &mut made)?,
+            Role::Order => self.orders.accept(from, body, &mut made)?,
+            Role::Payment => self.payments.accept(from, body, &mut made)?,
+            Role::Shipment => self.shipments.accept(from, body, &mut made)?,
+            Role::Customer => self.customers.accept(from, body, &mut made)?,
+            Role::Seller => self.sellers.accept(from, body, &mut made)?,
         }
         Ok(made)
     }

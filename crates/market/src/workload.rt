@@ -54,7 +54,7 @@ impl From<csv::Error> for WorkFault {
 /// The requests of all records of an input.
 pub fn read_workload(alloc: Global, text: &[u8]) -> Result<Vec<Request>, WorkFault>
     requires { length text.now ≤ MOST_BYTES }
-    ensures said { MatchResult result (λ requests. workload_of text.now
+    ensures reads { MatchResult result (λ requests. workload_of text.now
         ≡ Ok requests.items) (TellsWorkFault (workload_of text.now)) }
     ensures few { IfOk result (λ requests. vec_len requests ≤ MOST_BYTES) }
     ensures formed { IfOk result (λ requests. All IsRequest requests.items) }
@@ -73,7 +73,7 @@ pub fn read_workload(alloc: Global, text: &[u8]) -> Result<Vec<Request>, WorkFau
 
 // The request of one record.
 fn read_row(alloc: Global, row: &ByteRecord, number: u32) -> Result<Request, WorkFault>
-    ensures said { MatchResult result (λ request. at_record number (request_of (fields_of row.now))
+    ensures reads { MatchResult result (λ request. at_record number (request_of (fields_of row.now))
         ≡ Ok request)
         (TellsWorkFault (at_record number (request_of (fields_of row.now)))) }
     ensures formed { IfOk result IsRequest }

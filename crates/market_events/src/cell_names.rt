@@ -72,8 +72,8 @@ pub fn basket_name(
 
 /// The number whose cell in this table has the name.
 pub fn number_named(table: &[u8], name: &CellName) -> Option<u32>
-    ensures is { IfSome result (λ n. name.now ≡ number_name table.now n) }
-    ensures all { (n : ℕ) → n < 2 ^ 32 → name.now ≡ number_name table.now n → result ≡ Some n }
+    ensures named { IfSome result (λ n. name.now ≡ number_name table.now n) }
+    ensures found { (n : ℕ) → n < 2 ^ 32 → name.now ≡ number_name table.now n → result ≡ Some n }
 {
     if name.table.as_slice() != table {
         return None;
@@ -83,9 +83,9 @@ pub fn number_named(table: &[u8], name: &CellName) -> Option<u32>
 
 /// The product whose cell in this table has the name.
 pub fn key_named(table: &[u8], name: &CellName) -> Option<ProductKey>
-    ensures is { IfSome result (λ key. name.now ≡ key_name table.now key) }
+    ensures named { IfSome result (λ key. name.now ≡ key_name table.now key) }
     ensures formed { IfSome result (λ key. key_formed key ≡ true) }
-    ensures all { (key : ProductKey) → key_formed key ≡ true → name.now ≡ key_name table.now key
+    ensures found { (key : ProductKey) → key_formed key ≡ true → name.now ≡ key_name table.now key
         → result ≡ Some key }
 {
     if name.table.as_slice() != table {
@@ -96,9 +96,9 @@ pub fn key_named(table: &[u8], name: &CellName) -> Option<ProductKey>
 
 /// The request or checkout whose cell in this table has the name.
 pub fn id_named(table: &[u8], name: &CellName) -> Option<RequestId>
-    ensures is { IfSome result (λ id. name.now ≡ id_name table.now id) }
+    ensures named { IfSome result (λ id. name.now ≡ id_name table.now id) }
     ensures formed { IfSome result (λ id. request_id_formed id ≡ true) }
-    ensures all { (id : RequestId) → request_id_formed id ≡ true → name.now ≡ id_name table.now id
+    ensures found { (id : RequestId) → request_id_formed id ≡ true → name.now ≡ id_name table.now id
         → result ≡ Some id }
 {
     if name.table.as_slice() != table {
@@ -109,9 +109,9 @@ pub fn id_named(table: &[u8], name: &CellName) -> Option<RequestId>
 
 /// The customer and the product whose basket cell in this table has the name.
 pub fn basket_named(table: &[u8], name: &CellName) -> Option<(u32, ProductKey)>
-    ensures is { IfSome result (λ line. name.now ≡ basket_name table.now line) }
+    ensures named { IfSome result (λ line. name.now ≡ basket_name table.now line) }
     ensures formed { IfSome result (λ line. key_formed line.1 ≡ true) }
-    ensures all { (line : ℕ × ProductKey) → line.0 < 2 ^ 32 → key_formed line.1 ≡ true
+    ensures found { (line : ℕ × ProductKey) → line.0 < 2 ^ 32 → key_formed line.1 ≡ true
         → name.now ≡ basket_name table.now line → result ≡ Some line }
 {
     if name.table.as_slice() != table {
@@ -122,35 +122,36 @@ pub fn basket_named(table: &[u8], name: &CellName) -> Option<(u32, ProductKey)>
 
 // The number of a text.
 fn number_read(text: &[u8]) -> Option<u32>
-    ensures is { IfSome result (λ n. text.now ≡ decimal n) }
-    ensures all { (n : ℕ) → n < 2 ^ 32 → text.now ≡ decimal n → result ≡ Some n }
+    ensures written { IfSome result (λ n. text.now ≡ decimal n) }
+    ensures found { (n : ℕ) → n < 2 ^ 32 → text.now ≡ decimal n → result ≡ Some n }
 {
     id_number(text).ok()
 }
 
 // The key of a text.
 fn key_read(text: &[u8]) -> Option<ProductKey>
-    ensures is { IfSome result (λ key. text.now ≡ key_text key) }
+    ensures written { IfSome result (λ key. text.now ≡ key_text key) }
     ensures formed { IfSome result (λ key. key_formed key ≡ true) }
-    ensures all { (key : ProductKey) → key_formed key ≡ true → text.now ≡ key_text key → result ≡ Some key }
+    ensures found { (key : ProductKey) → key_formed key ≡ true → text.now ≡ key_text key → result ≡ Some key }
 {
     key(text).ok()
 }
 
 // The id of a text.
 fn id_read(text: &[u8]) -> Option<RequestId>
-    ensures is { IfSome result (λ id. text.now ≡ id_text id) }
+    ensures written { IfSome result (λ id. text.now ≡ id_text id) }
     ensures formed { IfSome result (λ id. request_id_formed id ≡ true) }
-    ensures all { (id : RequestId) → request_id_formed id ≡ true → text.now ≡ id_text id → result ≡ Some id }
+    ensures found { (id : RequestId) → request_id_formed id ≡ true → text.now ≡ id_text id
+        → result ≡ Some id }
 {
     id(text).ok()
 }
 
 // The customer and the product of a text.
 fn basket_read(text: &[u8]) -> Option<(u32, ProductKey)>
-    ensures is { IfSome result (λ line. text.now ≡ basket_key line.0 line.1) }
+    ensures written { IfSome result (λ line. text.now ≡ basket_key line.0 line.1) }
     ensures formed { IfSome result (λ line. key_formed line.1 ≡ true) }
-    ensures all { (line : ℕ × ProductKey) → line.0 < 2 ^ 32 → key_formed line.1 ≡ true
+    ensures found { (line : ℕ × ProductKey) → line.0 < 2 ^ 32 → key_formed line.1 ≡ true
         → text.now ≡ basket_key line.0 line.1 → result ≡ Some line }
 {
     basket(text).ok()

@@ -54,7 +54,7 @@ impl NameList {
 
     /// The names, no two of them the same.
     pub fn into_names(self) -> Result<Vec<CellName>, AllocError>
-        ensures is { IfOk result (λ names. names.items ≡ self) }
+        ensures same { IfOk result (λ names. names.items ≡ self) }
         ensures differ { IfOk result (λ names. IsDistinct same_name names.items) }
     {
         let mut all = Vec::new(self.alloc);

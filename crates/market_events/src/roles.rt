@@ -1,6 +1,6 @@
 //! The eight services.
 
-ghost use Rattle.std.specs.Prelude.{◌≡◌};
+ghost use Rattle.std.specs.Prelude.{◌≡◌, ◌≤◌, ◌↔◌, IfSome, IsNone};
 ghost use Rattle.market_events.specs.Links.{node_of};
 
 use crate::nodes::Node;
@@ -22,6 +22,24 @@ pub enum Role {
 }
 
 impl Role {
+    /// The service of a node; none where the node is a lane's.
+    pub fn of(node: Node) -> Option<Role>
+        ensures some { IfSome result (λ role. node_of role ≡ node) }
+        ensures none { IsNone result ↔ (SERVICES ≤ node) }
+    {
+        match node.get() {
+            0 => Some(Role::Cart),
+            1 => Some(Role::Product),
+            2 => Some(Role::Stock),
+            3 => Some(Role::Order),
+            4 => Some(Role::Payment),
+            5 => Some(Role::Shipment),
+            6 => Some(Role::Customer),
+            7 => Some(Role::Seller),
+            _ => None,
+        }
+    }
+
     /// Its node.
     pub fn node(self) -> Node
         ensures { result ≡ node_of self }

@@ -36,9 +36,6 @@ pub slice_index-past_of : (xs : List Entry) (k : ℕ) → k < SERVICE_LINKS → 
 unfolding past_of
 slice_index-past_of xs k lt = get_or-map-range_with_len (known xs) 0 SERVICE_LINKS k k 0 lt (omega arith)
 
-pub HasPasts-push : (xs : List Entry) (x : Entry) → HasPasts xs → RestsOn xs x.what → HasPasts (xs ++ x ∷ [])
-HasPasts-push xs x pasts last = EachAfter-push (λ before (y : Entry). RestsOn before y.what) [] xs x pasts last
-
 -- counts that are what is known of each service link
 pub past_of-by : (xs : List Entry) (counts : List ℕ) → length counts ≡ SERVICE_LINKS → ((k : ℕ) → k < SERVICE_LINKS → slice_index counts k ≡ known xs k) → counts ≡ past_of xs
 past_of-by xs counts len each =
@@ -54,15 +51,6 @@ known-most top (x ∷ xs) k each = omega (arith, each.0, known-most top xs k eac
 pub past_of-counts : (top : ℕ) (xs : List Entry) → top < 2 ^ 32 → ((k : ℕ) → k < SERVICE_LINKS → known xs k ≤ top) → AreCounts (past_of xs)
 past_of-counts top xs low each =
     record { each = length-past_of xs; high = λ k lt. omega (arith, slice_index-past_of xs k lt, each k lt) }
-
--- what an entry of each kind adds
-pub known-push-given : (xs : List Entry) (x : Entry) (k : ℕ) (request : Request) → x.what ≡ Given request → known (xs ++ x ∷ []) k ≡ known xs k
-known-push-given xs x k request is =
-    let told : count_told x k ≡ 0 = ap (λ w. count_in w k) is in let one_more = known-push xs x k in omega arith
-
-pub known-push-answered : (xs : List Entry) (x : Entry) (k : ℕ) (id : RequestId) (reply : Reply) → x.what ≡ Answered id reply → known (xs ++ x ∷ []) k ≡ known xs k
-known-push-answered xs x k id reply is =
-    let told : count_told x k ≡ 0 = ap (λ w. count_in w k) is in let one_more = known-push xs x k in omega arith
 
 pub known-push-made : (xs : List Entry) (x : Entry) (k : ℕ) (event : Event) → x.what ≡ Made event → known (xs ++ x ∷ []) k ≡ max (known xs k) (number_on k event)
 known-push-made xs x k event is = known-push xs x k ∙ ap (λ w. max (known xs k) (count_in w k)) is

@@ -18,10 +18,6 @@ AreEntriesFrom-front : (node place : ℕ) (xs ys : List Entry) → AreEntriesFro
 AreEntriesFrom-front node place [] ys here = tt
 AreEntriesFrom-front node place (x ∷ xs) ys here = (here.0, AreEntriesFrom-front node (place + 1) xs ys here.1)
 
--- the first entries of a journal are one
-pub IsJournal-front : (node : ℕ) (xs ys : List Entry) → IsJournal node (xs ++ ys) → IsJournal node xs
-IsJournal-front node xs ys here = AreEntriesFrom-front node 0 xs ys here
-
 AreEntriesFrom-at : (node place at : ℕ) (before : List Entry) (x : Entry) (after : List Entry) → AreEntriesFrom node place (before ++ x ∷ after) → at ≡ place + length before → IsEntry node at x
 AreEntriesFrom-at node place at [] x after here is =
     let e : place ≡ at = omega arith in subst (λ (n : ℕ). IsEntry node n x) e here.0

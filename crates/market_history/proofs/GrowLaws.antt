@@ -100,10 +100,6 @@ pub part_of-arrival : (arrival : Arrival) → part_of (what_of arrival) ≡ Part
 part_of-arrival (Arrival.Gives request) = refl
 part_of-arrival (Arrival.Takes event) = refl
 
-pub part_of-left : (entries : List Entry) (out : Out) → part_of (what_left entries out) ≡ Part.Left out
-part_of-left entries (Out.Makes link b) = refl
-part_of-left entries (Out.Answers id reply) = refl
-
 pub parts_of-with_what : (entries : List Entry) (what : What) → parts_of (with_what entries what) ≡ parts_of entries ++ part_of what ∷ []
 parts_of-with_what entries what = map-append (λ (x : Entry). part_of x.what) entries (entry_of entries what ∷ [])
 
@@ -135,15 +131,6 @@ blocks_after-push n before (i ∷ is) input =
 length-with_out : (entries : List Entry) (out : Out) → length (with_out entries out) ≡ length entries + 1
 length-with_out entries (Out.Makes link b) = length-append entries (entry_of entries (Made (next_event entries link b)) ∷ [])
 length-with_out entries (Out.Answers id reply) = length-append entries (entry_of entries (Answered id reply) ∷ [])
-
-pub length-outs : (entries : List Entry) (outs : List Out) → length (fold with_out entries outs) ≡ length entries + length outs
-length-outs entries [] = omega arith
-length-outs entries (out ∷ outs) = omega (arith, length-outs (with_out entries out) outs, length-with_out entries out)
-
-pub length-grow : (n : ℕ) (entries : List Entry) (arrival : Arrival) → length (grow n entries arrival) ≡ length entries + 1 + length (outs_after n entries arrival)
-unfolding grow
-length-grow n entries arrival =
-    omega (arith, length-outs (with_what entries (what_of arrival)) (outs_after n entries arrival), length-append entries (entry_of entries (what_of arrival) ∷ []))
 
 -- the clock
 clock_before-with_out : (entries : List Entry) (out : Out) → clock_before (with_out entries out) ≡ clock_before entries + 1

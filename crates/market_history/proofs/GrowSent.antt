@@ -78,13 +78,6 @@ bodies-grow link n entries arrival =
     bodies-outs link (with_what entries (what_of arrival)) (outs_after n entries arrival)
     ∙ ap (λ l. map (λ (e : Event). e.body) l ++ filter_map (out_on link) (outs_after n entries arrival)) (sent-arrival link entries arrival)
 
--- how many events are made on the link
-pub length-sent-grow : (link : Link) (n : ℕ) (entries : List Entry) (arrival : Arrival) → length (sent link (grow n entries arrival)) ≡ length (sent link entries) + length (filter_map (out_on link) (outs_after n entries arrival))
-length-sent-grow link n entries arrival =
-    sym (length-map (sent link (grow n entries arrival)) (λ (e : Event). e.body)) ∙ ap length (bodies-grow link n entries arrival)
-    ∙ length-append (bodies_on link entries) (filter_map (out_on link) (outs_after n entries arrival))
-    ∙ ap (λ k. k + length (filter_map (out_on link) (outs_after n entries arrival))) (length-map (sent link entries) (λ (e : Event). e.body))
-
 -- what was sent on a link begins as it was
 pub sent-prefix : (link : Link) (xs ys : List Entry) → IsPrefixOf xs ys → IsPrefixOf (sent link xs) (sent link ys)
 sent-prefix link xs ys (rest, is) = (sent link rest, ap (sent link) is ∙ filter_map-append (λ (x : Entry). event_made_on link x.what) xs rest)

@@ -50,44 +50,13 @@ pub sent-push-made : (link : Link) (xs : List Entry) (x : Entry) (event : Event)
 sent-push-made link xs x event is same =
     sent-push-some link xs x event (ap (λ w. event_made_on link w) is ∙ event_on-same link event same)
 
-pub sent-push-made_other : (link : Link) (xs : List Entry) (x : Entry) (event : Event) → x.what ≡ Made event → same_link event.link link ≡ false → sent link (xs ++ x ∷ []) ≡ sent link xs
-sent-push-made_other link xs x event is other =
-    sent-push-none link xs x (ap (λ w. event_made_on link w) is ∙ event_on-other link event other)
-
-pub sent-push-taken : (link : Link) (xs : List Entry) (x : Entry) (event : Event) → x.what ≡ Taken event → sent link (xs ++ x ∷ []) ≡ sent link xs
-sent-push-taken link xs x event is = sent-push-none link xs x (ap (λ w. event_made_on link w) is)
-
-pub sent-push-given : (link : Link) (xs : List Entry) (x : Entry) (request : Request) → x.what ≡ Given request → sent link (xs ++ x ∷ []) ≡ sent link xs
-sent-push-given link xs x request is = sent-push-none link xs x (ap (λ w. event_made_on link w) is)
-
-pub sent-push-answered : (link : Link) (xs : List Entry) (x : Entry) (id : RequestId) (reply : Reply) → x.what ≡ Answered id reply → sent link (xs ++ x ∷ []) ≡ sent link xs
-sent-push-answered link xs x id reply is = sent-push-none link xs x (ap (λ w. event_made_on link w) is)
-
 -- the entry took this event on the link
 pub got-push-some : (link : Link) (xs : List Entry) (x : Entry) (event : Event) → got_on link x.what ≡ Some event → got link (xs ++ x ∷ []) ≡ got link xs ++ event ∷ []
 got-push-some link xs x event some = got-push link xs x ∙ ap (λ o. got link xs ++ option_to_list o) some
 
--- the entry took none on the link
-pub got-push-none : (link : Link) (xs : List Entry) (x : Entry) → got_on link x.what ≡ None → got link (xs ++ x ∷ []) ≡ got link xs
-got-push-none link xs x none =
-    got-push link xs x ∙ ap (λ o. got link xs ++ option_to_list o) none ∙ append-nil (got link xs)
-
 pub got-push-taken : (link : Link) (xs : List Entry) (x : Entry) (event : Event) → x.what ≡ Taken event → same_link event.link link ≡ true → got link (xs ++ x ∷ []) ≡ got link xs ++ event ∷ []
 got-push-taken link xs x event is same =
     got-push-some link xs x event (ap (λ w. got_on link w) is ∙ event_on-same link event same)
-
-pub got-push-taken_other : (link : Link) (xs : List Entry) (x : Entry) (event : Event) → x.what ≡ Taken event → same_link event.link link ≡ false → got link (xs ++ x ∷ []) ≡ got link xs
-got-push-taken_other link xs x event is other =
-    got-push-none link xs x (ap (λ w. got_on link w) is ∙ event_on-other link event other)
-
-pub got-push-made : (link : Link) (xs : List Entry) (x : Entry) (event : Event) → x.what ≡ Made event → got link (xs ++ x ∷ []) ≡ got link xs
-got-push-made link xs x event is = got-push-none link xs x (ap (λ w. got_on link w) is)
-
-pub got-push-given : (link : Link) (xs : List Entry) (x : Entry) (request : Request) → x.what ≡ Given request → got link (xs ++ x ∷ []) ≡ got link xs
-got-push-given link xs x request is = got-push-none link xs x (ap (λ w. got_on link w) is)
-
-pub got-push-answered : (link : Link) (xs : List Entry) (x : Entry) (id : RequestId) (reply : Reply) → x.what ≡ Answered id reply → got link (xs ++ x ∷ []) ≡ got link xs
-got-push-answered link xs x id reply is = got-push-none link xs x (ap (λ w. got_on link w) is)
 
 -- the numbers of the events go up from this one
 NumberedFrom : ℕ → List Event → Type 0
@@ -125,20 +94,11 @@ pub IsNumbered-push : (events : List Event) (event : Event) → IsNumbered event
 unfolding NumberedFrom
 IsNumbered-push events event numbered next = NumberedFrom-push 1 events event numbered (omega arith)
 
--- the first events have the first numbers
-pub IsNumbered-front : (events more : List Event) → IsNumbered (events ++ more) → IsNumbered events
-unfolding NumberedFrom
-IsNumbered-front events more numbered = NumberedFrom-front 1 events more numbered
-
 -- an event's number is one more than there are before it
 pub IsNumbered-at : (before : List Event) (event : Event) (after : List Event) → IsNumbered (before ++ event ∷ after) → event.number ≡ length before + 1
 unfolding NumberedFrom
 IsNumbered-at before event after numbered =
     let there : event.number ≡ 1 + length before = NumberedFrom-at 1 before event after numbered in omega arith
-
--- a prefix of a list is one of a longer list
-pub IsPrefixOf-more : {A : Type 0} (xs ys zs : List A) → IsPrefixOf xs ys → IsPrefixOf xs (ys ++ zs)
-IsPrefixOf-more xs ys zs (rest, is) = (rest ++ zs, ap (λ l. l ++ zs) is ∙ append_assoc xs rest zs)
 
 -- what stands right after the first list
 slice_get_seam : {A : Type 0} (xs rest : List A) (y : A) → slice_get (xs ++ rest) (length xs) ≡ Some y → (more : List A) × (rest ≡ y ∷ more)
@@ -151,20 +111,3 @@ pub IsPrefixOf-next : {A : Type 0} (xs ys : List A) (y : A) → IsPrefixOf xs ys
 IsPrefixOf-next xs ys y (rest, is) there =
     let after = slice_get_seam xs rest y (ap (λ l. slice_get l (length xs)) (sym is) ∙ there) in
     (after.0, is ∙ ap (λ l. xs ++ l) after.1 ∙ sym (append_assoc xs (y ∷ []) after.0))
-
--- an event more that the sender made
-pub IsMatchedOn-made : (link : Link) (sender receiver : List Entry) (x : Entry) → IsMatchedOn link sender receiver → IsMatchedOn link (sender ++ x ∷ []) receiver
-IsMatchedOn-made link sender receiver x matched =
-    subst (λ events. IsPrefixOf (got link receiver) events) (sym (sent-push link sender x))
-    (IsPrefixOf-more (got link receiver) (sent link sender) (option_to_list (event_made_on link x.what)) matched)
-
--- an event more that the receiver took, the next that the sender made
-pub IsMatchedOn-taken : (link : Link) (sender receiver : List Entry) (x : Entry) (event : Event) → IsMatchedOn link sender receiver → x.what ≡ Taken event → same_link event.link link ≡ true → slice_get (sent link sender) (length (got link receiver)) ≡ Some event → IsMatchedOn link sender (receiver ++ x ∷ [])
-IsMatchedOn-taken link sender receiver x event matched is same next =
-    subst (λ events. IsPrefixOf events (sent link sender)) (sym (got-push-taken link receiver x event is same))
-    (IsPrefixOf-next (got link receiver) (sent link sender) event matched next)
-
--- an entry more of the receiver that took no event on the link
-pub IsMatchedOn-other : (link : Link) (sender receiver : List Entry) (x : Entry) → IsMatchedOn link sender receiver → got_on link x.what ≡ None → IsMatchedOn link sender (receiver ++ x ∷ [])
-IsMatchedOn-other link sender receiver x matched none =
-    subst (λ events. IsPrefixOf events (sent link sender)) (sym (got-push-none link receiver x none)) matched

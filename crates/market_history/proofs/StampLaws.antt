@@ -29,6 +29,3 @@ last_or-push o (y ∷ ys) x = last_or-push (Some y) ys x
 -- the clock after one entry more is its own
 pub clock_before-push : (xs : List Entry) (x : Entry) → clock_before (xs ++ x ∷ []) ≡ x.clock
 clock_before-push xs x = ap clock_in (last_or-push None xs x)
-
-pub IsStamped-push : (xs : List Entry) (x : Entry) → IsStamped xs → IsStampedAfter xs x → IsStamped (xs ++ x ∷ [])
-IsStamped-push xs x stamped last = EachAfter-push IsStampedAfter [] xs x stamped last

@@ -16,6 +16,7 @@ use Rattle.market_events.specs.declared.replies.EntryRow.{EntryRow}
 use Rattle.market_events.specs.declared.replies.OrderStatus.TheVariants as status
 use Rattle.market_events.specs.declared.replies.Reply.TheVariants as reply
 use Rattle.market_events.specs.declared.requests.Ask.TheVariants as ask
+use Rattle.market_events.specs.Links.{cart_node, product_node}
 use Rattle.market_events.specs.Stocks.{Reservation}
 use Rattle.market_history.specs.Output.{summary_of}
 use Rattle.market_history.specs.declared.schedule.Step.{Step}
@@ -34,16 +35,17 @@ answered_by service asked told = offer (Asked 7 service) asked ∷ offer (Told s
 
 abbrev pub base_steps : List Step
 base_steps =
-    give 1 create ∷ offer (Asked 7 1) 1 ∷ offer PRODUCT_TO_STOCK 1 ∷ offer PRODUCT_TO_CART 1
-    ∷ offer (Told 1 7) 1
+    give 1 create ∷ offer (Asked 7 product_node) 1 ∷ offer PRODUCT_TO_STOCK 1 ∷ offer PRODUCT_TO_CART 1
+    ∷ offer (Told product_node 7) 1
     ∷ give 2 (ask.Stock mug 3) ∷ (answered_by 2 1 1 ++
     give 3 (ask.Card 7 10000) ∷ (answered_by 4 1 1 ++
     give 4 (ask.Line 7 mug 2 100) ∷ (answered_by 0 1 1 ++
-    give 5 (ask.Checkout 7) ∷ offer (Asked 7 0) 2
+    give 5 (ask.Checkout 7) ∷ offer (Asked 7 cart_node) 2
     ∷ offer CART_TO_STOCK 1 ∷ offer STOCK_TO_ORDER 1 ∷ offer ORDER_TO_SELLER 1 ∷ offer ORDER_TO_PAYMENT 1
     ∷ offer PAYMENT_TO_STOCK 1 ∷ offer PAYMENT_TO_CUSTOMER 1 ∷ offer PAYMENT_TO_SELLER 1
     ∷ offer PAYMENT_TO_ORDER 1 ∷ offer PAYMENT_TO_SHIPMENT 1
-    ∷ offer SHIPMENT_TO_SELLER 1 ∷ offer SHIPMENT_TO_ORDER 1 ∷ offer ORDER_TO_CART 1 ∷ offer (Told 0 7) 2
+    ∷ offer SHIPMENT_TO_SELLER 1 ∷ offer SHIPMENT_TO_ORDER 1 ∷ offer ORDER_TO_CART 1
+    ∷ offer (Told cart_node 7) 2
     ∷ [])))
 
 abbrev pub base : Histories

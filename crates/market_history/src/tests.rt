@@ -3,10 +3,10 @@ ghost use Rattle.market_history.specs.Journals.{IsEntry};
 
 use crate::journals::Journal;
 use market_amounts::{Cents, ProductKey};
-use market_events::{Body, Change, Counts, Entry, Event, Link, Node, What};
+use market_events::{Body, Change, Counts, Entry, Event, Node, PRODUCT_TO_CART, What};
 use std::test::Fail;
 
-// That the product's node changed a price, as its event of this number on link 0, with this clock.
+// That products changed a price, as their event of this number to the cart, with this clock.
 fn price_changed(number: u32, clock: u64, price: Cents) -> Entry
     requires number { 1 ≤ number }
     requires clock { clock ≤ 2 ^ 62 }
@@ -19,7 +19,7 @@ fn price_changed(number: u32, clock: u64, price: Cents) -> Entry
     Entry {
         clock,
         what: What::Made(Event {
-            link: Link::Service(0),
+            link: PRODUCT_TO_CART,
             number,
             clock,
             past: Counts::zero(),

@@ -18,13 +18,13 @@ use Rattle.market_events.specs.declared.events.Entry.{Entry}
 use Rattle.market_events.specs.declared.events.Event.{Event}
 use Rattle.market_events.specs.declared.events.What.TheVariants.{Taken}
 use Rattle.market_events.specs.declared.links.Link.{Link}
-use Rattle.market_events.specs.declared.links.Link.TheVariants.{Service, Asked, Told}
+use Rattle.market_events.specs.declared.links.Link.TheVariants.{Asked, Told}
 use Rattle.market_events.specs.declared.links.TheConstants.{PRODUCT_TO_STOCK, CART_TO_STOCK, STOCK_TO_CART}
 use Rattle.market_events.specs.declared.links.TheConstants.{STOCK_TO_ORDER, ORDER_TO_PAYMENT, ORDER_TO_SELLER}
 use Rattle.market_events.specs.declared.links.TheConstants.{ORDER_TO_CART, PAYMENT_TO_STOCK, PAYMENT_TO_ORDER}
 use Rattle.market_events.specs.declared.links.TheConstants.{PAYMENT_TO_SHIPMENT, PAYMENT_TO_CUSTOMER}
 use Rattle.market_events.specs.declared.links.TheConstants.{PAYMENT_TO_SELLER, SHIPMENT_TO_ORDER}
-use Rattle.market_events.specs.declared.links.TheConstants.{SHIPMENT_TO_SELLER}
+use Rattle.market_events.specs.declared.links.TheConstants.{SHIPMENT_TO_SELLER, SHIPMENT_TO_CUSTOMER}
 use Rattle.market_events.specs.declared.replies.Reply.{Reply}
 use Rattle.market_events.specs.declared.replies.Reply.TheVariants as reply
 use Rattle.market_events.specs.declared.replies.UndoneRule.{UndoneRule}
@@ -80,13 +80,31 @@ IsMadeOnce h link test = count_by test (bodies_of (sent link (journal_at h (send
 abbrev pub HasTaken : List Entry → Link → Body → Type 0
 HasTaken entries link b = Member b (bodies_of (got link entries))
 
--- it is one of these service links
-abbrev pub IsOnOneOf : List ℕ → Link → Type 0
-IsOnOneOf links link = (k : ℕ) × Member k links × (link ≡ Service k)
+-- it is one of these links
+abbrev pub IsOnOneOf : List Link → Link → Type 0
+IsOnOneOf links link = Member link links
 
--- the body on each of these service links, in this order
-abbrev pub on_each : List ℕ → Body → List Sending
-on_each links b = map (λ k. (Service k, b)) links
+-- the body on each of these links, in this order
+abbrev pub on_each : List Link → Body → List Sending
+on_each links b = map (λ link. (link, b)) links
+
+-- the links on which orders send an invoice, payments a payment and a failure of one, and shipments what they
+-- shipped and what they delivered
+abbrev pub invoice_links : List Link
+invoice_links = ORDER_TO_SELLER ∷ ORDER_TO_PAYMENT ∷ []
+
+abbrev pub failure_links : List Link
+failure_links = PAYMENT_TO_STOCK ∷ PAYMENT_TO_CUSTOMER ∷ PAYMENT_TO_SELLER ∷ PAYMENT_TO_ORDER ∷ []
+
+abbrev pub payment_links : List Link
+payment_links =
+    PAYMENT_TO_STOCK ∷ PAYMENT_TO_CUSTOMER ∷ PAYMENT_TO_SELLER ∷ PAYMENT_TO_ORDER ∷ PAYMENT_TO_SHIPMENT ∷ []
+
+abbrev pub shipment_links : List Link
+shipment_links = SHIPMENT_TO_SELLER ∷ SHIPMENT_TO_ORDER ∷ []
+
+abbrev pub delivery_links : List Link
+delivery_links = SHIPMENT_TO_CUSTOMER ∷ SHIPMENT_TO_SELLER ∷ SHIPMENT_TO_ORDER ∷ []
 
 -- a customer asks for the checkout
 abbrev pub checkout_asked : RequestId → ℕ → Body
@@ -94,7 +112,7 @@ checkout_asked c customer = body.Asked (record { id = c; ask = ask.Checkout cust
 
 -- how a Reserve is made
 pub record ReservesHaveCauses (h : Histories) (c : RequestId) : Type 0 where
-  -- on link 2, in the block of the checkout's request, for its customer
+  -- on the link from the cart to stock, in the block of the checkout's request, for its customer
   pub cause : (n : ℕ) (made : Event) (m : MadeAt h n made) (customer : ℕ) (lines : List PricedLine)
       → made.body ≡ body.Reserve c customer lines
       → (made.link ≡ CART_TO_STOCK)
@@ -115,11 +133,12 @@ pub record ReservesHaveCauses (h : Histories) (c : RequestId) : Type 0 where
 
 -- how stock answers
 pub record StockAnswersHaveCauses (h : Histories) (c : RequestId) : Type 0 where
-  -- a StockConfirmed is made on link 4, in the block of a Reserve for the same customer, of the same lines
+  -- a StockConfirmed is made on the link to orders, in the block of a Reserve for the same customer, of the
+  -- same lines
   pub confirmed_cause : (n : ℕ) (made : Event) (m : MadeAt h n made) (customer : ℕ) (lines : List PricedLine)
       → made.body ≡ body.StockConfirmed c customer lines
       → (made.link ≡ STOCK_TO_ORDER) × IsCausedBy h n made m CART_TO_STOCK (body.Reserve c customer lines)
-  -- a ReserveFailed is made on link 3, in the block of a Reserve
+  -- a ReserveFailed is made on the link to the cart, in the block of a Reserve
   pub failed_cause : (n : ℕ) (made : Event) (m : MadeAt h n made) (key : ProductKey) (rule : StockRule)
       → made.body ≡ body.ReserveFailed c key rule
       → (made.link ≡ STOCK_TO_CART)
@@ -136,39 +155,39 @@ pub record StockAnswersHaveCauses (h : Histories) (c : RequestId) : Type 0 where
 
 -- how invoices are made
 pub record InvoicesHaveCauses (h : Histories) (c : RequestId) : Type 0 where
-  -- on links 6 and 5, in the block of a StockConfirmed for the same customer, of the same lines
+  -- on the links of invoices, in the block of a StockConfirmed for the same customer, of the same lines
   pub cause : (n : ℕ) (made : Event) (m : MadeAt h n made) (customer : ℕ) (lines : List PricedLine)
       (total : ℕ) → made.body ≡ body.Invoice c customer lines total
-      → IsOnOneOf (6 ∷ 5 ∷ []) made.link
+      → IsOnOneOf invoice_links made.link
       × IsCausedBy h n made m STOCK_TO_ORDER (body.StockConfirmed c customer lines)
   -- the block of a StockConfirmed makes both
   pub makes : (n : ℕ) (event : Event) (t : TookAt h n event) (customer : ℕ) (lines : List PricedLine)
       → event.link ≡ STOCK_TO_ORDER → event.body ≡ body.StockConfirmed c customer lines
-      → (total : ℕ) × MakesJust h n event t (on_each (6 ∷ 5 ∷ []) (body.Invoice c customer lines total))
+      → (total : ℕ) × MakesJust h n event t (on_each invoice_links (body.Invoice c customer lines total))
   pub once_to_seller : IsMadeOnce h ORDER_TO_SELLER (invoices c)
   pub once_to_payment : IsMadeOnce h ORDER_TO_PAYMENT (invoices c)
 
 -- how payments are made
 pub record PaymentsHaveCauses (h : Histories) (c : RequestId) : Type 0 where
-  -- a Confirmed is made on links 8, 11, 12, 9 and 10, in the block of an Invoice for the same customer, of
-  -- the same lines and total
+  -- a Confirmed is made on the links of payments, in the block of an Invoice for the same customer, of the
+  -- same lines and total
   pub confirmed_cause : (n : ℕ) (made : Event) (m : MadeAt h n made) (customer : ℕ) (lines : List PricedLine)
       (total : ℕ) → made.body ≡ body.Confirmed c customer lines total
-      → IsOnOneOf (8 ∷ 11 ∷ 12 ∷ 9 ∷ 10 ∷ []) made.link
+      → IsOnOneOf payment_links made.link
       × IsCausedBy h n made m ORDER_TO_PAYMENT (body.Invoice c customer lines total)
-  -- a Failed is made on links 8, 11, 12 and 9, in the block of an Invoice for the same customer
+  -- a Failed is made on those of failures, in the block of an Invoice for the same customer
   pub failed_cause : (n : ℕ) (made : Event) (m : MadeAt h n made) (customer : ℕ) (rule : PayRule)
       → made.body ≡ body.Failed c customer rule
-      → IsOnOneOf (8 ∷ 11 ∷ 12 ∷ 9 ∷ []) made.link
+      → IsOnOneOf failure_links made.link
       × ((lines : List PricedLine) × (total : ℕ)
       × IsCausedBy h n made m ORDER_TO_PAYMENT (body.Invoice c customer lines total))
   -- the block of an Invoice that payments take makes all of the one, or all of the other
   pub makes : (n : ℕ) (event : Event) (t : TookAt h n event) (customer : ℕ) (lines : List PricedLine)
       (total : ℕ) → event.link ≡ ORDER_TO_PAYMENT
       → event.body ≡ body.Invoice c customer lines total
-      → MakesJust h n event t (on_each (8 ∷ 11 ∷ 12 ∷ 9 ∷ 10 ∷ []) (body.Confirmed c customer lines total))
+      → MakesJust h n event t (on_each payment_links (body.Confirmed c customer lines total))
       ⊎ ((rule : PayRule)
-      × MakesJust h n event t (on_each (8 ∷ 11 ∷ 12 ∷ 9 ∷ []) (body.Failed c customer rule)))
+      × MakesJust h n event t (on_each failure_links (body.Failed c customer rule)))
   -- either of them once on each link
   pub once_to_stock : IsMadeOnce h PAYMENT_TO_STOCK (settles c)
   pub once_to_customer : IsMadeOnce h PAYMENT_TO_CUSTOMER (settles c)
@@ -186,16 +205,16 @@ pub record PaymentsHaveCauses (h : Histories) (c : RequestId) : Type 0 where
 
 -- how shipments are made
 pub record ShipmentsHaveCauses (h : Histories) (c : RequestId) : Type 0 where
-  -- on links 14 and 13, in the block of a Confirmed
+  -- on the links of shipments, in the block of a Confirmed
   pub cause : (n : ℕ) (made : Event) (m : MadeAt h n made) → made.body ≡ body.Shipped c
-      → IsOnOneOf (14 ∷ 13 ∷ []) made.link
+      → IsOnOneOf shipment_links made.link
       × ((customer : ℕ) × (lines : List PricedLine) × (total : ℕ)
       × IsCausedBy h n made m PAYMENT_TO_SHIPMENT (body.Confirmed c customer lines total))
   -- the block of a Confirmed that shipments take makes both
   pub makes : (n : ℕ) (event : Event) (t : TookAt h n event) (customer : ℕ) (lines : List PricedLine)
       (total : ℕ) → event.link ≡ PAYMENT_TO_SHIPMENT
       → event.body ≡ body.Confirmed c customer lines total
-      → MakesJust h n event t (on_each (14 ∷ 13 ∷ []) (body.Shipped c))
+      → MakesJust h n event t (on_each shipment_links (body.Shipped c))
   pub once_to_seller : IsMadeOnce h SHIPMENT_TO_SELLER (ships c)
   pub once_to_order : IsMadeOnce h SHIPMENT_TO_ORDER (ships c)
   -- orders and sellers took the payment before
@@ -215,7 +234,7 @@ EndingIsCaused h n made m c (ending.Whole total) = IsCausedBy h n made m SHIPMEN
 
 -- how endings are made
 pub record EndingsHaveCauses (h : Histories) (c : RequestId) : Type 0 where
-  -- on link 7, in the block of a Failed, or of a Shipped
+  -- on the link from orders to the cart, in the block of a Failed, or of a Shipped
   pub cause : (n : ℕ) (made : Event) (m : MadeAt h n made) (end : Ending) → made.body ≡ body.Ended c end
       → (made.link ≡ ORDER_TO_CART) × EndingIsCaused h n made m c end
   -- the block of a Failed that orders take makes one, and so does that of a Shipped
@@ -271,22 +290,22 @@ pub record DeliveryIsCaused (h : Histories) (n : ℕ) (made : Event) (m : MadeAt
 
 -- how deliveries are made
 pub record DeliveriesHaveCauses (h : Histories) (c : RequestId) : Type 0 where
-  -- a Delivered with a line of the checkout is made on links 15, 14 and 13, in the block of a request to
+  -- a Delivered with a line of the checkout is made on the links of deliveries, in the block of a request to
   -- deliver
   pub cause : (n : ℕ) (made : Event) (m : MadeAt h n made) (items : List Item) (item : Item)
       → made.body ≡ body.Delivered items → Member item items → item.checkout ≡ c
-      → IsOnOneOf (15 ∷ 14 ∷ 13 ∷ []) made.link × DeliveryIsCaused h n made m item
+      → IsOnOneOf delivery_links made.link × DeliveryIsCaused h n made m item
   -- the block of a request to deliver makes all three, of the same items, and tells how many; or it tells of
   -- none
   pub makes : (n : ℕ) (event : Event) (t : TookAt h n event) (id : RequestId) → event.body ≡ delivery_asked id
       → ((items : List Item) × (sellers : ℕ)
-      × MakesJust h n event t (on_each (15 ∷ 14 ∷ 13 ∷ []) (body.Delivered items)
+      × MakesJust h n event t (on_each delivery_links (body.Delivered items)
       ++ told shipment_node id (reply.Delivered sellers (length items)) ∷ []))
       ⊎ MakesJust h n event t (told shipment_node id (reply.Delivered 0 0) ∷ [])
   -- each line of the checkout is in one of them at most, on each link
-  pub once : (key : ProductKey) (k : ℕ) → Member k (15 ∷ 14 ∷ 13 ∷ [])
+  pub once : (key : ProductKey) (link : Link) → Member link delivery_links
       → count_by (is_item_of c key)
-      (flat_map items_in (bodies_of (sent (Service k) (journal_at h shipment_node)))) ≤ 1
+      (flat_map items_in (bodies_of (sent link (journal_at h shipment_node)))) ≤ 1
   -- orders and sellers took the shipment before
   pub order_before : (event : Event) (t : TookAt h order_node event) (items : List Item) (item : Item)
       → event.body ≡ body.Delivered items → Member item items → item.checkout ≡ c

@@ -11,6 +11,7 @@ use Rattle.market_events.specs.declared.links.TheConstants.{ORDER_TO_CART, PAYME
 use Rattle.market_events.specs.declared.links.TheConstants.{SHIPMENT_TO_SELLER, SHIPMENT_TO_CUSTOMER}
 use Rattle.market_events.specs.declared.replies.Reply.TheVariants as reply
 use Rattle.market_events.specs.declared.requests.Ask.TheVariants as ask
+use Rattle.market_events.specs.Links.{cart_node, stock_node, order_node, payment_node, shipment_node}
 use Rattle.market_history.specs.Checkouts.{is_kept_checkout}
 use Rattle.market_history.specs.Examples.{id, request, event, given, made}
 use Rattle.market_history.specs.ExamplesCreate.{past}
@@ -31,24 +32,26 @@ twice link b = made (event link 1 1 (past 0 0) b) ∷ made (event link 2 2 (past
 abbrev pub requested : Histories
 requested =
     of_one 15 (given 1 (request 5 (ask.Checkout 7))
-    ∷ made (event (Asked 7 0) 1 2 (past 0 0) (checkout_for 7)) ∷ [])
+    ∷ made (event (Asked 7 cart_node) 1 2 (past 0 0) (checkout_for 7)) ∷ [])
 
 abbrev pub ordered : Histories
 ordered =
     with_journal (with_journal (with_journal requested
-    0 (twice CART_TO_STOCK (reserve_for 7) ++ twice (Told 0 7) (body.Told (id 5) (reply.Whole 1950))))
-    2 (twice STOCK_TO_ORDER (held_for 7)))
-    3 (twice ORDER_TO_SELLER (invoice_for 7) ++ twice ORDER_TO_CART (body.Ended (id 5) (ending.Whole 1950)))
+    cart_node (twice CART_TO_STOCK (reserve_for 7)
+    ++ twice (Told cart_node 7) (body.Told (id 5) (reply.Whole 1950))))
+    stock_node (twice STOCK_TO_ORDER (held_for 7)))
+    order_node (twice ORDER_TO_SELLER (invoice_for 7)
+    ++ twice ORDER_TO_CART (body.Ended (id 5) (ending.Whole 1950)))
 
 abbrev pub made_twice : Histories
 made_twice =
     with_journal (with_journal ordered
-    4 (twice PAYMENT_TO_STOCK (paid_with 1950)))
-    5 (twice SHIPMENT_TO_SELLER shipped ++ twice SHIPMENT_TO_CUSTOMER delivered)
+    payment_node (twice PAYMENT_TO_STOCK (paid_with 1950)))
+    shipment_node (twice SHIPMENT_TO_SELLER shipped ++ twice SHIPMENT_TO_CUSTOMER delivered)
 
 -- a checkout is sent on, once and with no request
 abbrev pub uncaused : Histories
-uncaused = of_one 0 (made (event CART_TO_STOCK 1 1 (past 0 0) (reserve_for 7)) ∷ [])
+uncaused = of_one cart_node (made (event CART_TO_STOCK 1 1 (past 0 0) (reserve_for 7)) ∷ [])
 
 -- events_have_causes
 pub record CauseCounterexamples : Type 0 where

@@ -15,6 +15,7 @@ use Rattle.market_events.specs.declared.replies.Rule.TheVariants as rule
 use Rattle.market_events.specs.declared.requests.Ask.TheVariants as ask
 use Rattle.market_events.specs.declared.requests.Request.{Request}
 use Rattle.market_events.specs.Carts.{changes_taken}
+use Rattle.market_events.specs.Links.{cart_node, product_node, stock_node, order_node}
 use Rattle.market_events.specs.Orders.{is_of}
 use Rattle.market_events.specs.Products.{changes_made}
 use Rattle.market_events.specs.declared.roles.Role.{Role}
@@ -53,7 +54,8 @@ of_three m first n second k third = with_journal (of_two m first n second) k thi
 -- a lane's first request at clock 9
 abbrev pub given_late : Histories
 given_late =
-    of_one 15 (given 9 (request 1 create) ∷ made (event (Asked 7 1) 1 10 (past 0 0) (asks_for 1 create)) ∷ [])
+    of_one 15 (given 9 (request 1 create)
+    ∷ made (event (Asked 7 product_node) 1 10 (past 0 0) (asks_for 1 create)) ∷ [])
 
 -- a request for no pieces, which is not well formed
 abbrev pub misfit : Step
@@ -93,16 +95,17 @@ abbrev pub priced_unknown : Event
 priced_unknown = event PRODUCT_TO_CART 1 1 (past 0 0) (body.Changed mug 2 (Priced 1200))
 
 abbrev pub told_unasked : Event
-told_unasked = event (Told 1 7) 1 2 (past 1 0) (body.Told (id 1) (reply.Priced 2))
+told_unasked = event (Told product_node 7) 1 2 (past 1 0) (body.Told (id 1) (reply.Priced 2))
 
 abbrev pub from_nothing : Histories
 from_nothing =
-    of_three 1 (made priced_unknown ∷ made told_unasked ∷ []) 0 (taken 2 priced_unknown ∷ [])
+    of_three product_node (made priced_unknown ∷ made told_unasked ∷ []) cart_node (taken 2 priced_unknown
+    ∷ [])
     15 (taken 3 told_unasked ∷ answered 4 (id 1) (reply.Priced 2) ∷ [])
 
 -- the cart and stock took changes that were never made
 abbrev pub never_made : Histories
-never_made = of_two 0 (taken 6 to_cart ∷ []) 2 (taken 5 to_stock ∷ [])
+never_made = of_two cart_node (taken 6 to_cart ∷ []) stock_node (taken 5 to_stock ∷ [])
 
 abbrev pub view : Request
 view = request 2 (ask.View mug)
@@ -111,13 +114,13 @@ view = request 2 (ask.View mug)
 abbrev pub given_while_waiting : Histories
 given_while_waiting =
     of_one 15 (given 1 (request 1 create) ∷ made asked
-    ∷ given 3 view ∷ made (event (Asked 7 0) 1 4 (past 0 0) (body.Asked view)) ∷ [])
+    ∷ given 3 view ∷ made (event (Asked 7 cart_node) 1 4 (past 0 0) (body.Asked view)) ∷ [])
 
 -- events that do not fit, copies of no changes, and schedules that do not lead back
 pub record TakingCounterexamples : Type 0 where
   -- events_fit
   pub nothing_unlawful : IsLawful from_nothing → ⊥
-  pub nothing_fits : EachFits 0 (journal_at from_nothing 0) → ⊥
+  pub nothing_fits : EachFits cart_node (journal_at from_nothing cart_node) → ⊥
   pub nothing_in_time : EachInTime (journal_at from_nothing 15) → ⊥
   -- copies_are_of_a_front
   pub never_unlawful : IsLawful never_made → ⊥
@@ -142,22 +145,22 @@ forgetting = event PRODUCT_TO_CART 1 5 (past 0 0) created
 
 abbrev pub forgetful : Histories
 forgetful =
-    of_two 1 (taken 3 asked ∷ made to_stock ∷ made forgetting ∷ made to_lane ∷ [])
+    of_two product_node (taken 3 asked ∷ made to_stock ∷ made forgetting ∷ made to_lane ∷ [])
     15 (given 1 (request 1 create) ∷ made asked ∷ [])
 
 -- the cart takes a request for a line before the change that the lane was told of
 abbrev pub asks_line : Event
-asks_line = event (Asked 7 0) 1 10 (past 1 1) (asks_for 2 (ask.Line 7 mug 1 0))
+asks_line = event (Asked 7 cart_node) 1 10 (past 1 1) (asks_for 2 (ask.Line 7 mug 1 0))
 
 abbrev pub told_unknown : Event
-told_unknown = event (Told 0 7) 1 12 (past 1 1) (body.Told (id 2) (reply.Refused rule.Unknown))
+told_unknown = event (Told cart_node 7) 1 12 (past 1 1) (body.Told (id 2) (reply.Refused rule.Unknown))
 
 abbrev pub taken_early : Histories
 taken_early =
-    of_three 1 (taken 3 asked ∷ made to_stock ∷ made to_cart ∷ made to_lane ∷ [])
+    of_three product_node (taken 3 asked ∷ made to_stock ∷ made to_cart ∷ made to_lane ∷ [])
     15 (given 1 (request 1 create) ∷ made asked ∷ taken 7 to_lane ∷ answered 8 (id 1) (reply.Created 1)
     ∷ given 9 (request 2 (ask.Line 7 mug 1 0)) ∷ made asks_line ∷ [])
-    0 (taken 11 asks_line ∷ made told_unknown ∷ [])
+    cart_node (taken 11 asks_line ∷ made told_unknown ∷ [])
 
 -- pasts_are_causal_order: pasts that forget, and an event that is taken before its cause
 pub record CausalCounterexamples : Type 0 where
@@ -170,7 +173,7 @@ pub record CausalCounterexamples : Type 0 where
   -- it is before the other, and not taken before it
   pub early_unlawful : IsLawful taken_early → ⊥
   pub early_before : IsBefore (journal_at taken_early) to_cart asks_line
-  pub early_taken : IsTakenAfter (journal_at taken_early 0) [] asks_line
+  pub early_taken : IsTakenAfter (journal_at taken_early cart_node) [] asks_line
   pub early_first : Contains (events_taken []) to_cart → ⊥
 
 -- pieces that are held with no cause, and that orders took
@@ -178,11 +181,11 @@ abbrev pub held : Event
 held = event STOCK_TO_ORDER 1 1 (past 0 0) (held_for 7)
 
 abbrev pub held_from_nothing : Histories
-held_from_nothing = of_two 2 (made held ∷ []) 3 (taken 2 held ∷ [])
+held_from_nothing = of_two stock_node (made held ∷ []) order_node (taken 2 held ∷ [])
 
 -- stock keeps a reservation although it took a failure: of another customer, which does not fit
 abbrev pub stocks : Event
-stocks = event (Asked 7 2) 1 8 (past 0 1) (asks_for 2 (ask.Stock mug 3))
+stocks = event (Asked 7 stock_node) 1 8 (past 0 1) (asks_for 2 (ask.Stock mug 3))
 
 abbrev pub reserves : Event
 reserves = event CART_TO_STOCK 1 12 (past 0 1) (reserve_for 7)
@@ -192,7 +195,7 @@ fails_another = event PAYMENT_TO_STOCK 1 20 (past 0 1) (body.Failed (id 5) 8 pay
 
 abbrev pub kept_after_failed : Histories
 kept_after_failed =
-    of_one 2 (taken 5 to_stock ∷ taken 9 stocks ∷ taken 13 reserves
+    of_one stock_node (taken 5 to_stock ∷ taken 9 stocks ∷ taken 13 reserves
     ∷ made (event STOCK_TO_ORDER 1 14 (past 0 1) (held_for 7)) ∷ taken 21 fails_another ∷ [])
 
 -- reserved_is_listed: reservations that are listed and not kept, wait for nothing, or are kept and not listed

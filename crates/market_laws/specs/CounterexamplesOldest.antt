@@ -3,7 +3,7 @@ use Rattle.std.specs.Prelude.{◌≡◌, ℕ, [], ◌∷◌, Some, ◌⊎◌}
 use Rattle.market_events.specs.declared.events.Event.{Event}
 use Rattle.market_events.specs.declared.events.Offer.TheVariants as offers
 use Rattle.market_events.specs.declared.links.Link.{Link}
-use Rattle.market_events.specs.Links.{IsLink}
+use Rattle.market_events.specs.Links.{IsLink, cart_node, product_node}
 use Rattle.market_events.specs.declared.links.TheConstants.{PRODUCT_TO_CART, PRODUCT_TO_STOCK}
 use Rattle.market_history.specs.declared.schedule.Outcome.TheVariants as outcomes
 use Rattle.market_history.specs.declared.schedule.Step.TheVariants as moves
@@ -15,25 +15,27 @@ use Rattle.market_history.specs.Outstanding.{IsSettled, IsOldest}
 use Rattle.market_history.specs.Schedule.{event_at, offered, outcome_of}
 use Rattle.market_laws.specs.CounterexamplesHistories.{of_one, of_two}
 
--- a change to the cart with this number, clock and count of link 0 before it
+-- a change to the cart with this number and clock, and this count of those to the cart before it
 abbrev pub to_cart_at : ℕ → ℕ → ℕ → Event
 to_cart_at number clock before = event PRODUCT_TO_CART number clock (past before 0) created
 
 -- the second change has a smaller clock than the first
 abbrev pub falling : Histories
-falling = of_one 1 (made (to_cart_at 1 5 0) ∷ made (to_cart_at 2 3 1) ∷ [])
+falling = of_one product_node (made (to_cart_at 1 5 0) ∷ made (to_cart_at 2 3 1) ∷ [])
 
 -- changes to stock and to the cart with the same clock
 abbrev pub twins : Histories
-twins = of_one 1 (made (event PRODUCT_TO_STOCK 1 4 (past 0 0) created) ∷ made (to_cart_at 1 4 0) ∷ [])
+twins = of_one product_node (made (event PRODUCT_TO_STOCK 1 4 (past 0 0) created)
+    ∷ made (to_cart_at 1 4 0) ∷ [])
 
 -- two changes with the same number, of which the first was taken
 abbrev pub alike : Histories
-alike = of_two 1 (made (to_cart_at 1 1 0) ∷ made (to_cart_at 1 2 1) ∷ []) 0 (taken 3 (to_cart_at 1 1 0) ∷ [])
+alike = of_two product_node (made (to_cart_at 1 1 0) ∷ made (to_cart_at 1 2 1)
+    ∷ []) cart_node (taken 3 (to_cart_at 1 1 0) ∷ [])
 
 -- a change that rests on five of its own link, which were never made
 abbrev pub ahead : Histories
-ahead = of_one 1 (made (to_cart_at 1 1 5) ∷ [])
+ahead = of_one product_node (made (to_cart_at 1 1 5) ∷ [])
 
 -- the_oldest_event_is_taken
 pub record OldestCounterexamples : Type 0 where

@@ -3,7 +3,7 @@ use Rattle.std.specs.Prelude.{◌≡◌, true, false, is_some, [], ◌∷◌}
 use Rattle.market_events.specs.declared.links.Link.TheVariants.{Asked}
 use Rattle.market_events.specs.declared.replies.Reply.TheVariants as reply
 use Rattle.market_events.specs.declared.requests.Ask.TheVariants as ask
-use Rattle.market_events.specs.Links.{lane_node}
+use Rattle.market_events.specs.Links.{lane_node, product_node}
 use Rattle.market_history.specs.Book.{IsBook}
 use Rattle.market_history.specs.Checkouts.{is_kept_checkout, IsDecided}
 use Rattle.market_history.specs.Examples.{id, request, give, offer, given, answered, create}
@@ -31,7 +31,7 @@ whole_unordered = of_one 15 (given 1 (request 5 (ask.Checkout 7)) ∷ answered 2
 
 -- a change that neither the cart nor stock took yet
 abbrev pub untold : Histories
-untold = play no_histories (give 1 create ∷ offer (Asked 7 1) 1 ∷ [])
+untold = play no_histories (give 1 create ∷ offer (Asked 7 product_node) 1 ∷ [])
 
 pub record SettledCounterexamples : Type 0 where
   -- settled_lanes_answer

@@ -135,7 +135,8 @@ pub fn cart_runs()
     ensures sent_for { (steps : List Step) → IsRunOf Role.Cart steps
         → (checkout : RequestId) (customer : ℕ) (lines : List PricedLine)
         → Member (bodies.Reserve checkout customer lines) (made_on CART_TO_STOCK steps)
-        → Member (bodies.Asked (record { id = checkout; ask = asked.Checkout customer })) (taken_bodies steps) }
+        → Member (bodies.Asked (record { id = checkout; ask = asked.Checkout customer }))
+        (taken_bodies steps) }
 {}
 
 /// After a run of products, the cart and stock were told the same changes in the same order, and each fits
@@ -347,7 +348,8 @@ pub fn reserved_is_listed()
 /// first of its changes leave (`cart_shows`, `stock_shows`).
 pub fn copies_are_of_a_front()
     ensures cart_took { (h : Histories) → IsLawful h
-        → IsPrefixOf (changes_taken (service_steps h Role.Cart)) (changes_made (service_steps h Role.Product)) }
+        → IsPrefixOf (changes_taken (service_steps h Role.Cart))
+        (changes_made (service_steps h Role.Product)) }
     ensures stock_took { (h : Histories) → IsLawful h
         → IsPrefixOf (changes_taken (service_steps h Role.Stock))
         (changes_made (service_steps h Role.Product)) }

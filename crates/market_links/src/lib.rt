@@ -12,4 +12,4 @@ mod tests;
 pub use market_events::Offer;
 pub use receiver::Receiver;
 pub use sender::Sender;
-pub use slots::{SLOTS, slot_at_receiver, slot_at_sender};
+pub use slots::{SLOTS, link_from, link_into, slot_at_receiver, slot_at_sender};

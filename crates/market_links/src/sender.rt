@@ -16,9 +16,9 @@ const WINDOW: usize = 7;
 /// `SenderState`: the link, those events, how many events were acknowledged and how many released, and how
 /// many may be appended without taking memory. The numbers of the events go from 1 to 4,294,967,295.
 ///
-/// `append` and `reserve` alone take memory. Acknowledged events are forgotten: at most as many of them are
-/// kept as are under way. Each call takes constant time, where the cost of moving events is spread over those
-/// appended and acknowledged.
+/// `append`, `reserve` and `reserve_more` alone take memory. Acknowledged events are forgotten: at most as
+/// many of them are kept as are under way. Each call takes constant time, where the cost of moving events is
+/// spread over those appended and acknowledged.
 #[derive(Debug, Drop)]
 pub struct Sender {
     link: Link,
@@ -87,9 +87,18 @@ impl Sender {
         ensures ok { OnOk result (self.new ≡ record self.old { spare = max self.old.spare 1 }) }
         ensures err { OnErr result (self.new ≡ self.old) }
     {
-        if self.spare == 0 {
-            self.events.reserve(1)?;
-            self.spare = 1;
+        self.reserve_more(1)
+    }
+
+    /// Makes at least so many spare places. On want of memory the sender is as before.
+    pub fn reserve_more(&mut self, more: u32) -> Result<(), AllocError>
+        ensures ok { OnOk result (self.new ≡ record self.old { spare = max self.old.spare more }) }
+        ensures err { OnErr result (self.new ≡ self.old) }
+    {
+        let more = more as usize;
+        if more > self.spare {
+            self.events.reserve(more)?;
+            self.spare = more;
         }
         Ok(())
     }

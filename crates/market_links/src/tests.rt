@@ -1,17 +1,16 @@
 //! A receiver and a sender, step by step; the values are worked out by hand.
 
 ghost use Rattle.std.specs.Prelude.{◌≡◌};
-ghost use Rattle.market_events.specs.declared.links.Link.TheVariants.{Service};
 ghost use Rattle.market_events.specs.declared.links.TheConstants.{CART_TO_STOCK};
 
 use crate::receiver::Receiver;
 use crate::sender::Sender;
 use market_amounts::{ProductKey, RequestId};
-use market_events::{Ask, Body, Counts, Event, Link, Node, Offer, Request};
+use market_events::{Ask, Body, CART_TO_STOCK, Counts, Event, Node, Offer, Request};
 use std::process::Abort;
 use std::test::Fail;
 
-// An event of link 2 that rests on `needed` events of link 1.
+// An event from the cart to stock that rests on `needed` events from products to stock.
 fn event(number: u32, needed: u32, request: &Request) -> Event
     ensures link { result.link ≡ CART_TO_STOCK }
     ensures number { result.number ≡ number }
@@ -19,7 +18,7 @@ fn event(number: u32, needed: u32, request: &Request) -> Event
     let mut past = Counts::zero();
     past.raise(1, needed);
     Event {
-        link: Link::Service(2),
+        link: CART_TO_STOCK,
         number,
         clock: 5,
         past,
@@ -99,7 +98,7 @@ fn expect_window(rt: &impl Abort, sender: &Sender, first: u32, last: u32) {
 #[test]
 fn window_of_a_sender(rt: HostRuntime) -> Result<(), Fail> {
     let request = view();
-    let mut sender = Sender::new(rt.alloc(), Link::Service(2));
+    let mut sender = Sender::new(rt.alloc(), CART_TO_STOCK);
     for number in 1..10u32 {
         sender.reserve()?;
         assert!(rt; sender.append(event(number, 0, &request)).is_ok());

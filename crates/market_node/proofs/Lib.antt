@@ -12,3 +12,7 @@ pub mod EventLaws
 pub mod MakingLaws
 pub mod RecordLaws
 pub mod ReserveLaws
+pub mod SendingLaws
+pub mod SenderLaws
+pub mod SettledLaws
+pub mod GrownLaws

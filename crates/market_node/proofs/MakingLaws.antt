@@ -17,6 +17,7 @@ use Rattle.market_node.proofs.RecordLaws.{same_record}
 pub record IsMaking (start : RecordState) (all : List Sending) (now : RecordState) (left : List Sending) : Type 0 where
   pub same_node : now.node ≡ start.node
   pub same_committed : now.committed ≡ start.committed
+  pub same_acknowledged : now.acknowledged ≡ start.acknowledged
   pub ends : fold with_out now.entries (map made_out left) ≡ fold with_out start.entries (map made_out all)
   pub room_left : now.room + length all ≡ start.room + length left
   pub each : AllByRecursion (CanMake start.node) left
@@ -28,6 +29,7 @@ pub making_first : (start : RecordState) (all : List Sending) → AllByRecursion
 making_first start all each room few clock = record {
   same_node = refl;
   same_committed = refl;
+  same_acknowledged = refl;
   ends = refl;
   room_left = refl;
   each = each;
@@ -48,6 +50,7 @@ making_next start all now next left rest to b making is made =
     subst (λ r. IsMaking start all r rest) (sym made) (record {
       same_node = making.same_node;
       same_committed = making.same_committed;
+      same_acknowledged = making.same_acknowledged;
       ends = ap (λ (ms : List Sending). fold with_out now.entries (map made_out ms)) (sym is) ∙ making.ends;
       room_left = let shorter = long in let room = making.room_left in let enough = making.enough in omega arith;
       each = (subst (λ (ms : List Sending). AllByRecursion (CanMake start.node) ms) is making.each).1;
@@ -63,6 +66,6 @@ making_next start all now next left rest to b making is made =
 pub making_last : (start : RecordState) (all : List Sending) (now : RecordState) (left : List Sending) → IsMaking start all now left → left ≡ []
     → now ≡ record start { entries = fold with_out start.entries (map made_out all); room = start.room - length all }
 making_last start all now left making none =
-    same_record now start.node start.committed (start.room - length all) (fold with_out start.entries (map made_out all)) making.same_node
-    (ap (λ (ms : List Sending). fold with_out now.entries (map made_out ms)) (sym none) ∙ making.ends) making.same_committed
+    same_record now start.node start.committed start.acknowledged (start.room - length all) (fold with_out start.entries (map made_out all)) making.same_node
+    (ap (λ (ms : List Sending). fold with_out now.entries (map made_out ms)) (sym none) ∙ making.ends) making.same_committed making.same_acknowledged
     (let room = making.room_left in let nothing : length left ≡ 0 = ap (λ (ms : List Sending). length ms) none in omega arith)

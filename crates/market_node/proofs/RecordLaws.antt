@@ -1,5 +1,6 @@
 -- The record of a node, with one entry more.
 use Rattle.std.proofs.Common.{◌≡◌, ℕ, ◌+◌, ◌^◌, ◌<◌, ◌≤◌, true, List, [], ◌∷◌, ◌++◌, length, slice_index, refl, ap, ◌∙◌, arith, length-append}
+use Rattle.std.specs.Prelude.{Result, Ok, Err, OnErr}
 use Rattle.std.specs.List.{slice_set}
 use Rattle.std.proofs.lemmas.List.Sums.{count_by-le-length}
 use Rattle.market_amounts.specs.declared.keys.RequestId.{RequestId}
@@ -31,16 +32,19 @@ use Rattle.market_node.specs.Records.{RecordState}
 use Rattle.market_node.proofs.NoteLaws.{next_of_take, AreNotes-quiet, AreNotes-taken, AreNotes-made, same_notes}
 use Rattle.market_node.proofs.PlaceLaws.{length-places_of}
 
-abbrev pub state : ℕ → List Entry → ℕ → ℕ → RecordState
-state node entries committed room = record { node = node; entries = entries; committed = committed; room = room }
+abbrev pub state : ℕ → List Entry → ℕ → List ℕ → ℕ → RecordState
+state node entries committed acknowledged room =
+    record { node = node; entries = entries; committed = committed; acknowledged = acknowledged; room = room }
 
-pub same_parts : (m n : ℕ) (xs ys : List Entry) (c d k l : ℕ) → m ≡ n → xs ≡ ys → c ≡ d → k ≡ l → state m xs c k ≡ state n ys d l
-same_parts m n xs ys c d k l one two three four =
-    ap (λ i. state i xs c k) one ∙ ap (λ zs. state n zs c k) two ∙ ap (λ i. state n ys i k) three ∙ ap (λ i. state n ys d i) four
+pub same_parts : (m n : ℕ) (xs ys : List Entry) (c d : ℕ) (a b : List ℕ) (k l : ℕ) → m ≡ n → xs ≡ ys → c ≡ d → a ≡ b → k ≡ l → state m xs c a k ≡ state n ys d b l
+same_parts m n xs ys c d a b k l one two three four five =
+    ap (λ i. state i xs c a k) one ∙ ap (λ zs. state n zs c a k) two ∙ ap (λ i. state n ys i a k) three
+    ∙ ap (λ i. state n ys d i k) four ∙ ap (λ i. state n ys d b i) five
 
 -- records with equal parts
-pub same_record : (r : RecordState) (n c k : ℕ) (es : List Entry) → r.node ≡ n → r.entries ≡ es → r.committed ≡ c → r.room ≡ k → r ≡ state n es c k
-same_record r n c k es node entries committed room = same_parts r.node n r.entries es r.committed c r.room k node entries committed room
+pub same_record : (r : RecordState) (n c : ℕ) (a : List ℕ) (k : ℕ) (es : List Entry) → r.node ≡ n → r.entries ≡ es → r.committed ≡ c → r.acknowledged ≡ a → r.room ≡ k → r ≡ state n es c a k
+same_record r n c a k es node entries committed acknowledged room =
+    same_parts r.node n r.entries es r.committed c r.acknowledged a r.room k node entries committed acknowledged room
 
 abbrev pub entry_at : ℕ → What → Entry
 entry_at clock what = record { clock = clock; what = what }
@@ -182,3 +186,24 @@ pub notes_answered : (node other : ℕ) (xs ys : List Entry) (clock later : ℕ)
 notes_answered node other xs ys clock later id reply known services receivers lists notes n e =
     same_notes other node ys (xs ++ entry_at later (Answered id reply) ∷ []) later later known known services services receivers receivers lists lists n e refl refl refl refl refl
     (AreNotes-quiet node xs (entry_at later (Answered id reply)) clock known services receivers lists notes (λ k. refl) refl (λ link. refl))
+
+-- with more room for places
+pub notes_reserved : (node other : ℕ) (xs ys : List Entry) (clock : ℕ) (known services receivers : List ℕ) (lists wider : List PlaceState) → AreNotes node xs clock known services receivers lists
+    → other ≡ node → ys ≡ xs → length wider ≡ length lists → ((slot : ℕ) → (at_slot wider slot).places ≡ (at_slot lists slot).places)
+    → AreNotes other ys clock known services receivers wider
+notes_reserved node other xs ys clock known services receivers lists wider notes n e many same =
+    same_notes other node ys xs clock clock known known services services receivers receivers wider wider n e refl refl refl refl refl (record {
+      clock = notes.clock;
+      known = notes.known;
+      services = notes.services;
+      received = notes.received;
+      receivers = notes.receivers;
+      listed = many ∙ notes.listed;
+      places = λ link is from. same (slot_from link) ∙ notes.places link is from;
+      numbered = notes.numbered;
+    })
+
+-- what holds anyway holds on an error
+pub on_err : {A E : Type 0} (r : Result A E) (P : Type 0) → P → OnErr r P
+on_err (Ok x) P holds = tt
+on_err (Err e) P holds = holds

@@ -41,9 +41,9 @@ fit_of old now role event o view fitting is take =
 
 -- the record of the event that was taken, and of what the service made of it
 pub record TookIt (old held took : RecordState) (event taken : Event) (room left : ℕ) : Type 0 where
-  pub held_is : held ≡ record { node = old.node; entries = old.entries; committed = old.committed; room = room }
+  pub held_is : held ≡ record { node = old.node; entries = old.entries; committed = old.committed; acknowledged = old.acknowledged; room = room }
   pub taken_is : taken ≡ event
-  pub took_is : took ≡ record { node = held.node; entries = with_what held.entries (Taken taken); committed = held.committed; room = left }
+  pub took_is : took ≡ record { node = held.node; entries = with_what held.entries (Taken taken); committed = held.committed; acknowledged = held.acknowledged; room = left }
 
 module _ (old held took : RecordState) (event taken : Event) (room left : ℕ) (it : TookIt old held took event taken room left) where
   pub took_node : took.node ≡ old.node
@@ -57,6 +57,9 @@ module _ (old held took : RecordState) (event taken : Event) (room left : ℕ) (
       ap (λ (r : RecordState). r.entries) it.took_is ∙ ap (λ (r : RecordState). with_what r.entries (Taken taken)) it.held_is
       ∙ ap (λ (e : Event). with_what old.entries (Taken e)) it.taken_is
 
+  took_acknowledged : took.acknowledged ≡ old.acknowledged
+  took_acknowledged = ap (λ (r : RecordState). r.acknowledged) it.took_is ∙ ap (λ (r : RecordState). r.acknowledged) it.held_is
+
   -- its clock is one above the last one and the event's
   pub took_clock : clock_before took.entries ≡ max (clock_before old.entries) event.clock + 1
   took_clock = ap (λ es. clock_before es) took_entries ∙ clock-with_what old.entries (Taken event)
@@ -67,29 +70,35 @@ module _ (old held took : RecordState) (event taken : Event) (room left : ℕ) (
 
   -- with what is made of it, it is the block
   pub took_grown : (role : Role) (outs : List Sending) (made : RecordState) (rest : ℕ) → old.node ≡ node_of role → outs ≡ reactions role (steps_of role (inputs_of old.entries)) event.link event.body
-      → made ≡ record { node = took.node; entries = fold with_out took.entries (map made_out outs); committed = took.committed; room = rest }
+      → made ≡ record { node = took.node; entries = fold with_out took.entries (map made_out outs); committed = took.committed; acknowledged = took.acknowledged; room = rest }
       → made.entries ≡ grow old.node old.entries (Arrival.Takes event)
   took_grown role outs made rest is answered made_is =
       ap (λ (r : RecordState). r.entries) made_is ∙ ap (λ es. fold with_out es (map made_out outs)) took_entries
       ∙ service_grows role old.node old.entries event outs is answered
 
   pub made_node : (outs : List Sending) (made : RecordState) (rest : ℕ)
-      → made ≡ record { node = took.node; entries = fold with_out took.entries (map made_out outs); committed = took.committed; room = rest } → made.node ≡ old.node
+      → made ≡ record { node = took.node; entries = fold with_out took.entries (map made_out outs); committed = took.committed; acknowledged = took.acknowledged; room = rest } → made.node ≡ old.node
   made_node outs made rest made_is = ap (λ (r : RecordState). r.node) made_is ∙ took_node
 
   pub made_committed : (outs : List Sending) (made : RecordState) (rest : ℕ)
-      → made ≡ record { node = took.node; entries = fold with_out took.entries (map made_out outs); committed = took.committed; room = rest } → made.committed ≡ old.committed
+      → made ≡ record { node = took.node; entries = fold with_out took.entries (map made_out outs); committed = took.committed; acknowledged = took.acknowledged; room = rest } → made.committed ≡ old.committed
   made_committed outs made rest made_is = ap (λ (r : RecordState). r.committed) made_is ∙ took_committed
 
--- a core that has the same node and as many committed entries
-pub grown_core : (old made : RecordState) (now : CoreState) (event : Event) → core_of old ≡ now → made.node ≡ old.node → made.committed ≡ old.committed → made.entries ≡ grow old.node old.entries (Arrival.Takes event)
+  pub made_acknowledged : (outs : List Sending) (made : RecordState) (rest : ℕ)
+      → made ≡ record { node = took.node; entries = fold with_out took.entries (map made_out outs); committed = took.committed; acknowledged = took.acknowledged; room = rest } → made.acknowledged ≡ old.acknowledged
+  made_acknowledged outs made rest made_is = ap (λ (r : RecordState). r.acknowledged) made_is ∙ took_acknowledged
+
+-- a core that has the same node, as many committed entries and as many acknowledged events
+pub grown_core : (old made : RecordState) (now : CoreState) (event : Event) → core_of old ≡ now → made.node ≡ old.node → made.committed ≡ old.committed → made.acknowledged ≡ old.acknowledged → made.entries ≡ grow old.node old.entries (Arrival.Takes event)
     → core_of made ≡ with_entries now (grow now.node now.entries (Arrival.Takes event))
-grown_core old made now event view node committed grown =
+grown_core old made now event view node committed acknowledged grown =
     subst (λ (s : CoreState). core_of made ≡ with_entries s (grow s.node s.entries (Arrival.Takes event))) view
-    (ap (λ n. state n made.entries made.committed) node ∙ ap (λ es. state old.node es made.committed) grown ∙ ap (λ n. state old.node (grow old.node old.entries (Arrival.Takes event)) n) committed)
+    (ap (λ n. state n made.entries made.committed made.acknowledged) node ∙ ap (λ es. state old.node es made.committed made.acknowledged) grown
+    ∙ ap (λ n. state old.node (grow old.node old.entries (Arrival.Takes event)) n made.acknowledged) committed
+    ∙ ap (λ ns. state old.node (grow old.node old.entries (Arrival.Takes event)) old.committed ns) acknowledged)
   where
-    state : ℕ → List Entry → ℕ → CoreState
-    state node entries committed = record { node = node; entries = entries; committed = committed }
+    state : ℕ → List Entry → ℕ → List ℕ → CoreState
+    state node entries committed acknowledged = record { node = node; entries = entries; committed = committed; acknowledged = acknowledged }
 
 module _ {Kept : Type 0} (role : Role) (holds : Kept → List Step → Type 0) where
   -- what it can take

@@ -1,9 +1,12 @@
 pub mod PlaceStates
 pub mod Notes
+pub mod Sending
+pub mod Settled
 pub mod Records
 pub mod Recorders
 pub mod Cores
 pub mod Keeping
 pub mod Arriving
+pub mod Offered
 pub mod ServiceCores
 pub mod LaneCores

@@ -1,28 +1,26 @@
 //! The core of a lane.
 
-ghost use Rattle.std.specs.Prelude.{◌≡◌, ◌≢◌, ◌+◌, ◌-◌, ◌^◌, ◌<◌, ◌≤◌, drop, true, [], length, nat_lt};
-ghost use Rattle.std.specs.Prelude.{is_some, IfOk, OnOk, OnErr};
+ghost use Rattle.std.specs.Prelude.{◌≡◌, ◌≢◌, ◌+◌, ◌-◌, ◌^◌, ◌<◌, ◌≤◌, length};
+ghost use Rattle.std.specs.Prelude.{is_some, IfOk, OnErr};
 ghost use Rattle.std.specs.Option.{option_copied};
-ghost use Rattle.market_events.specs.Links.{IsLink, lane_node, sender_of, receiver_of as receiver_by_link};
-ghost use Rattle.market_events.specs.Links.{service_by_ask};
-ghost use Rattle.market_events.specs.Offers.{offer_of, taken_on};
+ghost use Rattle.market_events.specs.Links.{lane_node};
+ghost use Rattle.market_events.specs.Offers.{offer_of};
 ghost use Rattle.market_events.specs.Requests.{lane_of};
 ghost use Rattle.market_events.specs.WellFormed.{IsRequest};
 ghost use Rattle.market_history.specs.Blocks.{grow, Arrival};
 ghost use Rattle.market_history.specs.Causality.{events_taken};
-ghost use Rattle.market_history.specs.Once.{give_of, give_by, is_waiting, reply_of, requests_given, with_id};
+ghost use Rattle.market_history.specs.Once.{give_of, give_by, reply_of, requests_given, with_id};
 ghost use Rattle.market_history.specs.Stamps.{clock_before};
 ghost use Rattle.market_node.specs.Arriving.{CanArrive};
-ghost use Rattle.market_node.specs.Cores.{with_entries};
+ghost use Rattle.market_node.specs.Cores.{new_core, with_entries};
 ghost use Rattle.market_node.specs.Keeping.{IsAwaitedBy};
-ghost use Rattle.market_node.specs.Notes.{event_with};
 
 use crate::reading::{given_in, reply_in, told};
 use crate::recorder::Recorder;
 use crate::table::{Kept, keep, note_answer};
 use market_amounts::RequestId;
-use market_events::{Body, Entry, Event, Link, Offer, Reply, Request, asking_link, lane_node};
-use market_history::{Give, Journal};
+use market_events::{Body, Event, Offer, Reply, Request, asking_link, lane_node};
+use market_history::Give;
 use std::alloc::{AllocError, Global};
 use std::collections::BTreeMap;
 use std::marker::Model;
@@ -30,11 +28,12 @@ use std::marker::Model;
 /// How many requests a lane keeps at most.
 pub const MOST_KEPT: u32 = 16_384;
 
-/// The core of a lane. It keeps each request that it asks, and its answer, for good. Contracts see the node,
-/// the entries of its journal, and how many of them are committed.
+/// The core of a lane. It keeps each request that it asks, and its answer, for good. Contracts see a
+/// `CoreState`: the node, the entries of its journal, how many of them are committed, and how many events
+/// were acknowledged on each link out of it, by slot.
 #[derive(Drop)]
 pub struct LaneCore {
-    recorder: Recorder,
+    pub(crate) recorder: Recorder,
     table: BTreeMap<RequestId, Kept>,
     count: u32,
     // The request that has no answer yet.
@@ -57,7 +56,7 @@ impl LaneCore {
     /// The core of this lane, 0 to 15, with an empty journal.
     pub fn new(alloc: Global, lane: u8) -> Result<LaneCore, AllocError>
         requires { lane < 16 }
-        ensures { IfOk result (λ core. core ≡ record { node = lane_node lane; entries = []; committed = 0 }) }
+        ensures { IfOk result (λ core. core ≡ new_core (lane_node lane)) }
     {
         let recorder = Recorder::new(alloc, lane_node(lane))?;
         Ok(LaneCore {
@@ -66,46 +65,6 @@ impl LaneCore {
             count: 0,
             waiting: None,
         })
-    }
-
-    /// The journal. It takes no memory.
-    pub fn journal(&self) -> &Journal
-        ensures node { result.now.node ≡ self.now.node }
-        ensures entries { result.now.entries ≡ self.now.entries }
-    {
-        self.recorder.journal()
-    }
-
-    /// The entries that are not committed. It takes no memory.
-    pub fn uncommitted(&self) -> &[Entry]
-        ensures { result.now ≡ drop self.now.committed self.now.entries }
-    {
-        self.recorder.uncommitted()
-    }
-
-    /// Counts all entries as committed, and their events as released. It takes no memory.
-    pub fn release(&mut self)
-        ensures { self.new ≡ record self.old { committed = length self.old.entries } }
-    {
-        self.recorder.release();
-    }
-
-    /// The event of a link out of the lane with this number, where one was made. It takes no memory.
-    pub fn event(&self, link: Link, number: u32) -> Option<&Event>
-        requires link { IsLink link }
-        requires from { sender_of link ≡ self.now.node }
-        ensures { option_copied result ≡ event_with link number self.now.entries }
-    {
-        self.recorder.event(link, number)
-    }
-
-    /// How many events were taken on a link into the lane. It takes no memory.
-    pub fn taken(&self, link: Link) -> u32
-        requires link { IsLink link }
-        requires into { receiver_by_link link ≡ self.now.node }
-        ensures { result ≡ taken_on (events_taken self.now.entries) link }
-    {
-        self.recorder.taken(link)
     }
 
     /// The reply to the request with this id, where it is kept and was answered. It takes no memory.
@@ -164,8 +123,9 @@ impl LaneCore {
         self.count += 1;
         self.waiting = Some(request.id);
         self.recorder.give(*request);
-        self.recorder
-            .make(asking_link(request), Body::Asked(*request));
+        let asked = Body::Asked(*request);
+        let copy = Body::Asked(*request);
+        self.recorder.make(asking_link(request), asked, copy);
         Ok(give)
     }
 

@@ -3,6 +3,7 @@
 //! lane, what asks the service of a request. Nothing here runs.
 #![tactic(auto)]
 
+mod cores;
 mod counting;
 mod lane_core;
 mod lists;
@@ -12,8 +13,10 @@ mod places;
 mod reading;
 mod received;
 mod recorder;
+mod senders;
 mod table;
 mod writing;
 
+pub use cores::Core;
 pub use lane_core::{LaneCore, MOST_KEPT};
 pub use node_core::NodeCore;

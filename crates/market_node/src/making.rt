@@ -1,14 +1,13 @@
 //! The events that a step of a service makes.
 
-ghost use Rattle.std.specs.Prelude.{◌≡◌, ◌+◌, ◌-◌, ◌^◌, ◌<◌, ◌≤◌, [], ◌∷◌, fold, map, length, IfSome, IfNone};
-ghost use Rattle.std.specs.Prelude.{IsNone};
+ghost use Rattle.std.specs.Prelude.{◌≡◌, ◌+◌, ◌-◌, ◌^◌, ◌<◌, ◌≤◌, fold, map, length};
 ghost use Rattle.std.specs.List.{AllByRecursion};
 ghost use Rattle.market_history.specs.Blocks.{with_out, made_out};
 ghost use Rattle.market_history.specs.Stamps.{clock_before};
 ghost use Rattle.market_node.specs.ServiceCores.{CanMake};
 
 use crate::recorder::Recorder;
-use market_events::{Body, Link, Outs};
+use market_events::Outs;
 
 // Adds that the node made these events, each after those before it. It requires room for them, and takes no
 // memory.
@@ -23,17 +22,7 @@ pub fn make_all(recorder: &mut Recorder, outs: Outs)
     } }
 {
     let mut outs = outs;
-    while let Some((link, body)) = take_first(&mut outs) {
-        recorder.make(link, body);
+    while let Some((link, body, copy)) = outs.first() {
+        recorder.make(link, body, copy);
     }
-}
-
-// Takes the first of the bodies away, with its link.
-fn take_first(outs: &mut Outs) -> Option<(Link, Body)>
-    ensures first { IfSome result (λ out. outs.old ≡ (out.0, out.1) ∷ outs.new) }
-    ensures none { IsNone result → outs.old ≡ [] }
-    ensures empty { IfNone result (outs.new ≡ []) }
-{
-    let (link, body, _copy) = outs.first()?;
-    Some((link, body))
 }

@@ -1,21 +1,18 @@
 //! The core of a service's node.
 
-ghost use Rattle.std.specs.Prelude.{◌≡◌, ◌≢◌, drop, true, [], length, IfOk, OnErr};
-ghost use Rattle.std.specs.Option.{option_copied};
+ghost use Rattle.std.specs.Prelude.{◌≡◌, ◌≢◌, true, [], IfOk, OnErr};
 ghost use Rattle.market_events.specs.Cells.{cells_of};
-ghost use Rattle.market_events.specs.Links.{IsLink, sender_of, receiver_of};
-ghost use Rattle.market_events.specs.Offers.{offer_of, taken_on};
+ghost use Rattle.market_events.specs.Offers.{offer_of};
 ghost use Rattle.market_events.specs.Services.{fits, node_of};
 ghost use Rattle.market_history.specs.Blocks.{grow, inputs_of, steps_of, Arrival};
 ghost use Rattle.market_history.specs.Causality.{events_taken};
 ghost use Rattle.market_history.specs.Journals.{AsksOwn};
 ghost use Rattle.market_node.specs.Arriving.{CanArrive};
-ghost use Rattle.market_node.specs.Cores.{with_entries};
-ghost use Rattle.market_node.specs.Notes.{event_with};
+ghost use Rattle.market_node.specs.Cores.{new_core, with_entries};
 
 use crate::making::make_all;
 use crate::recorder::Recorder;
-use market_events::{Cell, Entry, Event, Link, MOST_OUTS, Node, Offer, Outs, Service, Tabled};
+use market_events::{Cell, Event, MOST_OUTS, Node, Offer, Outs, Service, Tabled};
 use market_history::Journal;
 use std::alloc::{AllocError, Global};
 use std::marker::Model;
@@ -23,12 +20,13 @@ use std::marker::Model;
 // How many entries one step adds at most.
 const MOST_ENTRIES: u32 = MOST_OUTS as u32 + 1;
 
-/// The core of a service's node: the service, and its journal. Contracts see the node, the entries of its
-/// journal, and how many of them are committed. The service stands for the steps that the journal tells of.
+/// The core of a service's node: the service, and its journal. Contracts see a `CoreState`: the node, the
+/// entries of its journal, how many of them are committed, and how many events were acknowledged on each link
+/// out of it, by slot. The service stands for the steps that the journal tells of.
 #[derive(Drop)]
 pub struct NodeCore<S: Service> {
     alloc: Global,
-    recorder: Recorder,
+    pub(crate) recorder: Recorder,
     service: S,
 }
 
@@ -51,7 +49,7 @@ impl<S: Service> NodeCore<S> {
         S: Drop,
         requires node { node ≡ node_of S.role }
         requires service { S.holds service [] }
-        ensures { IfOk result (λ core. core ≡ record { node = node; entries = []; committed = 0 }) }
+        ensures { IfOk result (λ core. core ≡ new_core node) }
     {
         let recorder = Recorder::new(alloc, node)?;
         Ok(NodeCore {
@@ -59,46 +57,6 @@ impl<S: Service> NodeCore<S> {
             recorder,
             service,
         })
-    }
-
-    /// The journal. It takes no memory.
-    pub fn journal(&self) -> &Journal
-        ensures node { result.now.node ≡ self.now.node }
-        ensures entries { result.now.entries ≡ self.now.entries }
-    {
-        self.recorder.journal()
-    }
-
-    /// The entries that are not committed. It takes no memory.
-    pub fn uncommitted(&self) -> &[Entry]
-        ensures { result.now ≡ drop self.now.committed self.now.entries }
-    {
-        self.recorder.uncommitted()
-    }
-
-    /// Counts all entries as committed, and their events as released. It takes no memory.
-    pub fn release(&mut self)
-        ensures { self.new ≡ record self.old { committed = length self.old.entries } }
-    {
-        self.recorder.release();
-    }
-
-    /// The event of a link out of the node with this number, where one was made. It takes no memory.
-    pub fn event(&self, link: Link, number: u32) -> Option<&Event>
-        requires link { IsLink link }
-        requires from { sender_of link ≡ self.now.node }
-        ensures { option_copied result ≡ event_with link number self.now.entries }
-    {
-        self.recorder.event(link, number)
-    }
-
-    /// How many events were taken on a link into the node. It takes no memory.
-    pub fn taken(&self, link: Link) -> u32
-        requires link { IsLink link }
-        requires into { receiver_of link ≡ self.now.node }
-        ensures { result ≡ taken_on (events_taken self.now.entries) link }
-    {
-        self.recorder.taken(link)
     }
 
     /// Takes an event that is offered to the node. It requires a well-formed event of a link into the node

@@ -1,7 +1,7 @@
 //! The record of a node: its journal, and what is noted beside it, so that an entry is added without a walk.
 
-ghost use Rattle.std.specs.Prelude.{◌≡◌, ◌+◌, ◌-◌, ◌^◌, ◌<◌, ◌≤◌, max, drop, true, [], length, IfOk, OnOk};
-ghost use Rattle.std.specs.Prelude.{OnErr};
+ghost use Rattle.std.specs.Prelude.{◌≡◌, ◌+◌, ◌-◌, ◌^◌, ◌<◌, max, drop, take, true, [], length, IfOk, OnOk};
+ghost use Rattle.std.specs.Prelude.{OnErr, slice_index, slice_set};
 ghost use Rattle.std.specs.Option.{option_copied};
 ghost use Rattle.market_amounts.specs.declared.keys.RequestId.{RequestId};
 ghost use Rattle.market_events.specs.Carried.{carries};
@@ -13,22 +13,28 @@ ghost use Rattle.market_history.specs.Blocks.{with_what, with_out, Out};
 ghost use Rattle.market_history.specs.Causality.{events_taken};
 ghost use Rattle.market_history.specs.Journals.{AsksOwn, CanBeKept, IsLane};
 ghost use Rattle.market_history.specs.Stamps.{clock_before};
+ghost use Rattle.market_links.specs.Slots.{slot_from};
+ghost use Rattle.market_links.specs.declared.slots.TheConstants.{SLOTS};
 ghost use Rattle.market_node.specs.Notes.{event_with};
+ghost use Rattle.market_node.specs.Records.{new_record};
+ghost use Rattle.market_node.specs.Sending.{window_on, with_count};
 
 use crate::counting::raise;
 use crate::lists::Lists;
 use crate::reading::made_on;
 use crate::received::Received;
+use crate::senders::Senders;
 use crate::writing::write;
 use market_amounts::RequestId;
 use market_events::{Body, Counts, Entry, Event, Link, Node, Offer, Reply, Request, What};
 use market_history::Journal;
-use market_links::slot_at_sender;
+use market_links::{Receiver, SLOTS, slot_at_receiver, slot_at_sender};
 use std::alloc::{AllocError, Global};
 use std::marker::Model;
 
 // The record of a node. Contracts see the node, the entries of its journal, how many of them are committed,
-// and for how many more there is room for sure.
+// how many events were acknowledged on each link out of it, and for how many more entries there is room for
+// sure.
 #[derive(Drop)]
 pub struct Recorder {
     journal: Journal,
@@ -39,7 +45,10 @@ pub struct Recorder {
     received: Received,
     // Where in the journal the events of each link out of the node stand.
     lists: Lists,
+    senders: Senders,
     committed: usize,
+    // How many of the events taken are committed, by the slot of their link.
+    settled: [Receiver; SLOTS],
     room: u32,
 }
 
@@ -58,18 +67,22 @@ impl Model for Recorder {
 impl Recorder {
     // The record of this node, with no entry and no room.
     pub fn new(alloc: Global, node: Node) -> Result<Recorder, AllocError>
-        ensures { IfOk result (λ recorder. recorder
-            ≡ record { node = node; entries = []; committed = 0; room = 0 }) }
+        ensures { IfOk result (λ recorder. recorder ≡ new_record node) }
     {
         let _number = node.get();
         let lists = Lists::new(alloc)?;
+        let senders = Senders::new(alloc, node)?;
+        let received = Received::new();
+        let settled = received.receivers;
         Ok(Recorder {
             journal: Journal::new(alloc, node),
             clock: 0,
             known: Counts::zero(),
-            received: Received::new(),
+            received,
             lists,
+            senders,
             committed: 0,
+            settled,
             room: 0,
         })
     }
@@ -78,6 +91,7 @@ impl Recorder {
     pub fn journal(&self) -> &Journal
         ensures node { result.now.node ≡ self.now.node }
         ensures entries { result.now.entries ≡ self.now.entries }
+        ensures slots { length self.now.acknowledged ≡ SLOTS }
     {
         &self.journal
     }
@@ -89,11 +103,45 @@ impl Recorder {
         &self.journal.entries()[self.committed..]
     }
 
-    // Counts all entries as committed.
+    // Counts all entries as committed, and their events as released.
     pub fn release(&mut self)
         ensures { self.new ≡ record self.old { committed = length self.old.entries } }
     {
         self.committed = self.journal.entries().len();
+        self.settled = self.received.receivers;
+        self.senders.release();
+    }
+
+    // The events of a link out of the node that may be sent. It takes no memory.
+    pub fn window(&self, link: Link) -> &[Event]
+        requires link { IsLink link }
+        requires from { sender_of link ≡ self.now.node }
+        ensures { result.now ≡ window_on link self.now.entries self.now.committed
+            (slice_index self.now.acknowledged (slot_from link)) }
+    {
+        self.senders.window(slot_at_sender(link))
+    }
+
+    // Notes a count of taken events that came back on a link out of the node. It takes no memory.
+    pub fn ack(&mut self, link: Link, count: u32)
+        requires link { IsLink link }
+        requires from { sender_of link ≡ self.old.node }
+        ensures { self.new ≡ record self.old {
+          acknowledged = slice_set self.old.acknowledged (slot_from link)
+              (with_count link self.old.entries self.old.committed
+              (slice_index self.old.acknowledged (slot_from link)) count);
+        } }
+    {
+        self.senders.ack(slot_at_sender(link), count);
+    }
+
+    // How many events that were taken on a link into the node are committed. It takes no memory.
+    pub fn settled(&self, link: Link) -> u32
+        requires link { IsLink link }
+        requires into { receiver_of link ≡ self.now.node }
+        ensures { result ≡ taken_on (events_taken (take self.now.committed self.now.entries)) link }
+    {
+        self.settled[slot_at_receiver(link)].count()
     }
 
     // How many events were taken on a link into the node. It takes no memory.
@@ -121,6 +169,7 @@ impl Recorder {
     {
         self.journal.reserve(more)?;
         self.lists.reserve(more)?;
+        self.senders.reserve(more)?;
         self.room = self.room.max(more);
         Ok(())
     }
@@ -152,9 +201,10 @@ impl Recorder {
         write(&mut self.journal, entry);
     }
 
-    // Adds that the node made an event of this body on a link that leads out of it, with the next number. It
-    // requires room, and takes no memory.
-    pub fn make(&mut self, link: Link, body: Body)
+    // Adds that the node made an event of this body on a link that leads out of it, with the next number; the
+    // copy of the body is for the event that is sent. It requires room, and takes no memory.
+    pub fn make(&mut self, link: Link, body: Body, copy: Body)
+        requires copy { copy ≡ body }
         requires link { IsLink link }
         requires from { sender_of link ≡ self.old.node }
         requires carried { carries link body ≡ true }
@@ -180,6 +230,14 @@ impl Recorder {
             past: self.known,
             body,
         };
+        let to_send = Event {
+            link,
+            number,
+            clock: self.clock,
+            past: self.known,
+            body: copy,
+        };
+        self.senders.append(slot, to_send);
         raise(&mut self.known, link, number);
         let entry = Entry {
             clock: self.clock,

@@ -58,11 +58,11 @@ pub record CanSendEvents (ends : NodeEnds) (link : Link) (events : List Event) :
   pub there : out_at ends (slot_from link) ≡ Some out
   pub room : most_pushed events out.events.held ≤ out.events.free
 
--- the node has the ends of a link into it, with room for one count and for what is held
-pub record CanSendCount (ends : NodeEnds) (link : Link) : Type 0 where
+-- the node has the ends of a link into it, with room for these counts and for what is held
+pub record CanSendCounts (ends : NodeEnds) (link : Link) (counts : List ℕ) : Type 0 where
   pub into : LinkIn
   pub there : in_at ends (slot_into link) ≡ Some into
-  pub room : most_pushed (0 ∷ []) into.counts.held ≤ into.counts.free
+  pub room : most_pushed counts into.counts.held ≤ into.counts.free
 
 -- events were sent on the link with these fates, and nothing else changed
 pub record HaveSentEvents (before after : NodeEnds) (link : Link) (events : List Event) (fates : List Fate) :
@@ -72,25 +72,36 @@ pub record HaveSentEvents (before after : NodeEnds) (link : Link) (events : List
   pub sent : after
       ≡ with_link_out before (slot_from link) (record out { events = with_sent out.events events fates })
 
--- a count was sent back on the link with the first of these fates, and nothing else changed
-pub record HaveSentCount (before after : NodeEnds) (link : Link) (count : ℕ) (fates : List Fate) : Type 0
-  where
-    pub into : LinkIn
-    pub there : in_at before (slot_into link) ≡ Some into
-    pub sent : after
-        ≡ with_in before (slot_into link) (record into { counts = with_sent into.counts (count ∷ []) fates })
-
--- these events are all that waited on the link, and nothing else changed
-pub record HaveTakenEvents (before after : NodeEnds) (link : Link) (events : List Event) : Type 0 where
+-- counts were sent back on the link with these fates, and nothing else changed
+pub record HaveSentCounts (before after : NodeEnds) (link : Link) (counts : List ℕ) (fates : List Fate) :
+    Type 0 where
   pub into : LinkIn
   pub there : in_at before (slot_into link) ≡ Some into
-  pub all : events ≡ into.events.waiting
-  pub taken : after ≡ with_in before (slot_into link) (record into { events = with_all_popped into.events })
+  pub sent : after
+      ≡ with_in before (slot_into link) (record into { counts = with_sent into.counts counts fates })
 
--- these counts are all that waited on the link, and nothing else changed
-pub record HaveTakenCounts (before after : NodeEnds) (link : Link) (counts : List ℕ) : Type 0 where
-  pub out : LinkOut
-  pub there : out_at before (slot_from link) ≡ Some out
-  pub all : counts ≡ out.counts.waiting
-  pub taken : after
-      ≡ with_link_out before (slot_from link) (record out { counts = with_all_popped out.counts })
+-- what waits at the slot of a link into the node, and at that of a link out of it
+abbrev pub events_waiting : Option LinkIn → List Event
+events_waiting None = []
+events_waiting (Some into) = into.events.waiting
+
+abbrev pub counts_waiting : Option LinkOut → List ℕ
+counts_waiting None = []
+counts_waiting (Some out) = out.counts.waiting
+
+-- with all of it popped
+abbrev pub events_taken : Option LinkIn → Option LinkIn
+events_taken None = None
+events_taken (Some into) = Some (record into { events = with_all_popped into.events })
+
+abbrev pub counts_taken : Option LinkOut → Option LinkOut
+counts_taken None = None
+counts_taken (Some out) = Some (record out { counts = with_all_popped out.counts })
+
+abbrev pub with_events_taken : NodeEnds → ℕ → NodeEnds
+with_events_taken ends slot =
+    record ends { ins = slice_set ends.ins slot (events_taken (in_at ends slot)) }
+
+abbrev pub with_counts_taken : NodeEnds → ℕ → NodeEnds
+with_counts_taken ends slot =
+    record ends { outs = slice_set ends.outs slot (counts_taken (out_at ends slot)) }

@@ -1,14 +1,16 @@
 //! The ends of the rings at a node, and how those of two nodes are brought together.
 
-ghost use Rattle.std.specs.Prelude.{◌≡◌, ◌<◌, ◌≤◌, [], ◌∷◌, None, Some, replicate, IsSome, IfOk, OnOk};
+ghost use Rattle.std.specs.Prelude.{◌≡◌, ◌<◌, ◌≤◌, [], ◌∷◌, None, Some, length, replicate, IsSome, IfOk};
+ghost use Rattle.std.specs.Prelude.{OnOk};
 ghost use Rattle.market_events.specs.Links.{IsLink};
 ghost use Rattle.market_links.specs.Slots.{slot_into, slot_from};
 ghost use Rattle.market_links.specs.declared.slots.TheConstants.{SLOTS};
 ghost use Rattle.market_rings.specs.NodeEnds.{no_ends, out_at, in_at, with_in, AreJoined, HaveMet};
-ghost use Rattle.market_rings.specs.NodeEnds.{CanSendEvents, CanSendCount, HaveSentEvents, HaveSentCount};
-ghost use Rattle.market_rings.specs.NodeEnds.{HaveTakenEvents, HaveTakenCounts, with_link_out};
+ghost use Rattle.market_rings.specs.NodeEnds.{CanSendEvents, CanSendCounts, HaveSentEvents, HaveSentCounts};
+ghost use Rattle.market_rings.specs.NodeEnds.{events_waiting, counts_waiting, with_events_taken};
+ghost use Rattle.market_rings.specs.NodeEnds.{with_counts_taken, with_link_out};
 ghost use Rattle.market_rings.specs.Fates.{fates_at, with_fates};
-ghost use Rattle.market_rings.specs.Pushes.{fates_left, fates_after_one};
+ghost use Rattle.market_rings.specs.Pushes.{fates_left};
 ghost use Rattle.market_rings.specs.RingEnds.{most_pushed, with_sent};
 ghost use Rattle.market_rings.specs.declared.fates.Way.TheVariants.{Carry, Ack};
 
@@ -73,6 +75,15 @@ impl Ends {
 }
 
 impl Ends {
+    /// How many slots there are for links out of the node, and for links into it.
+    pub fn slots(&self) -> usize
+        ensures outs { length self.now.outs ≡ result }
+        ensures ins { length self.now.ins ≡ result }
+        ensures full { result ≡ SLOTS }
+    {
+        self.outs.len()
+    }
+
     /// Sends events on a link out of the node, each with the next fate of the link. It requires the link's
     /// ends, with as many slots known to be free as can be needed. After want of memory some of this was
     /// done.
@@ -98,52 +109,52 @@ impl Ends {
         Ok(())
     }
 
-    /// Sends a count of taken events back on a link into the node, with the next fate of the link. It
+    /// Sends counts of taken events back on a link into the node, each with the next fate of the link. It
     /// requires the link's ends, with as many slots known to be free as can be needed. After want of memory
     /// some of this was done.
-    pub fn send_count(
+    pub fn send_counts(
         &mut self,
         link: Link,
-        count: u32,
+        counts: &[u32],
         fates: &mut Fates,
     ) -> Result<(), AllocError>
         requires link { IsLink link }
-        requires can { CanSendCount self.old link }
+        requires can { CanSendCounts self.old link counts.now }
         ensures sent { OnOk result
-            (HaveSentCount self.old self.new link count (fates_at fates.old Ack (slot_into link))) }
+            (HaveSentCounts self.old self.new link counts.now (fates_at fates.old Ack (slot_into link))) }
         ensures fates { OnOk result (fates.new
             ≡ with_fates fates.old Ack (slot_into link)
-            (fates_after_one (fates_at fates.old Ack (slot_into link)))) }
+            (fates_left counts.now (fates_at fates.old Ack (slot_into link)))) }
     {
         let slot = slot_at_receiver(link);
         let Some(into) = &mut self.ins[slot] else {
             return Ok(());
         };
-        send_back(into, count, fates, slot)?;
+        send_back(into, counts, fates, slot)?;
         Ok(())
     }
 
-    /// Takes all events that wait on a link into the node, oldest first. It requires the link's ends. After
-    /// want of memory some of them are lost.
-    pub fn take_events(&mut self, link: Link, alloc: Global) -> Result<Vec<Event>, AllocError>
-        requires link { IsLink link }
-        requires there { IsSome (in_at self.old (slot_into link)) }
-        ensures { IfOk result (λ events. HaveTakenEvents self.old self.new link events.items) }
+    /// Takes all events that wait at the slot of a link into the node, oldest first: none where no link has
+    /// the slot. After want of memory some of them are lost.
+    pub fn take_events(&mut self, slot: usize, alloc: Global) -> Result<Vec<Event>, AllocError>
+        requires { slot < SLOTS }
+        ensures events { IfOk result (λ events. events.items ≡ events_waiting (in_at self.old slot)) }
+        ensures taken { OnOk result (self.new ≡ with_events_taken self.old slot) }
     {
-        match &mut self.ins[slot_at_receiver(link)] {
+        match &mut self.ins[slot] {
             Some(into) => into.events.take_waiting(alloc),
             None => Ok(Vec::new(alloc)),
         }
     }
 
-    /// Takes all counts that wait on a link out of the node, oldest first. It requires the link's ends. After
-    /// want of memory some of them are lost.
-    pub fn take_counts(&mut self, link: Link, alloc: Global) -> Result<Vec<u32>, AllocError>
-        requires link { IsLink link }
-        requires there { IsSome (out_at self.old (slot_from link)) }
-        ensures { IfOk result (λ counts. HaveTakenCounts self.old self.new link counts.items) }
+    /// Takes all counts that wait at the slot of a link out of the node, oldest first: none where no link has
+    /// the slot. After want of memory some of them are lost.
+    pub fn take_counts(&mut self, slot: usize, alloc: Global) -> Result<Vec<u32>, AllocError>
+        requires { slot < SLOTS }
+        ensures counts { IfOk result (λ counts. counts.items ≡ counts_waiting (out_at self.old slot)) }
+        ensures taken { OnOk result (self.new ≡ with_counts_taken self.old slot) }
     {
-        match &mut self.outs[slot_at_sender(link)] {
+        match &mut self.outs[slot] {
             Some(out) => out.counts.take_waiting(alloc),
             None => Ok(Vec::new(alloc)),
         }
@@ -167,21 +178,21 @@ fn send_out(
     out.events.send(events, &mut fates.carry[slot])
 }
 
-// Sends a count back, with the fates of the slot.
+// Sends counts back, with the fates of the slot.
 fn send_back(
     into: &mut LinkIn,
-    count: u32,
+    counts: &[u32],
     fates: &mut Fates,
     slot: usize,
 ) -> Result<(), AllocError>
     requires slot { slot < SLOTS }
-    requires room { most_pushed (count ∷ []) into.old.counts.held ≤ into.old.counts.free }
+    requires room { most_pushed counts.now into.old.counts.held ≤ into.old.counts.free }
     ensures sent { OnOk result (into.new
-        ≡ record into.old { counts = with_sent into.old.counts (count ∷ []) (fates_at fates.old Ack slot) }) }
+        ≡ record into.old { counts = with_sent into.old.counts counts.now (fates_at fates.old Ack slot) }) }
     ensures fates { OnOk result (fates.new
-        ≡ with_fates fates.old Ack slot (fates_after_one (fates_at fates.old Ack slot))) }
+        ≡ with_fates fates.old Ack slot (fates_left counts.now (fates_at fates.old Ack slot))) }
 {
-    into.counts.send(&[count], &mut fates.ack[slot])
+    into.counts.send(counts, &mut fates.ack[slot])
 }
 
 /// Brings the ends of both rings of a link together. It requires the ends of the link's sender and of its

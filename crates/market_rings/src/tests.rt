@@ -7,15 +7,15 @@ use crate::inlets::Inlet;
 use crate::outlets::Outlet;
 use crate::rings::{look, ring};
 use market_amounts::{ProductKey, RequestId};
-use market_events::{Ask, Body, Counts, Event, Link, Request};
+use market_events::{Ask, Body, CART_TO_STOCK, Counts, Event, Request};
 use std::alloc::{AllocError, Global};
 use std::process::Abort;
 use std::test::Fail;
 
-// An event of link 2 with this number.
+// An event from the cart to stock with this number.
 fn event(number: u32) -> Event {
     Event {
-        link: Link::Service(2),
+        link: CART_TO_STOCK,
         number,
         clock: 5,
         past: Counts::zero(),

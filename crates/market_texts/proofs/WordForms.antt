@@ -1,7 +1,7 @@
 -- Words that are joined of other words: ids, keys, lines, items and rows.
-use Rattle.std.proofs.Common.{◌≡◌, ◌≤◌, ℕ, ◌==◌, ◌&&◌, ◌||◌, not, nat_le, nat_lt, Bool, true, false, cond, List, [], ◌∷◌, length, map, Result, Ok, Err, refl, ap, sym, subst, ◌∙◌, arith}
+use Rattle.std.proofs.Common.{◌≡◌, ◌≤◌, ℕ, ◌==◌, ◌||◌, not, nat_lt, Bool, true, false, cond, List, [], ◌∷◌, length, map, Result, Ok, Err, refl, ap, subst, ◌∙◌, arith}
 use Rattle.std.specs.Fmt.{decimal}
-use Rattle.std.specs.List.{AllByRecursion, join_with_byte}
+use Rattle.std.specs.List.{AllByRecursion}
 use Rattle.std.proofs.lemmas.Bool.Decides.{nat_tests}
 use Rattle.std.proofs.lemmas.List.{length-map}
 use Rattle.market_amounts.specs.declared.keys.ProductKey.{ProductKey}
@@ -12,12 +12,12 @@ use Rattle.market_words.specs.declared.faults.WordFault.{WordFault}
 use Rattle.market_words.specs.declared.faults.WordFault.TheVariants.{Field}
 use Rattle.market_events.specs.declared.replies.EntryRow.{EntryRow}
 use Rattle.market_events.specs.declared.replies.OrderStatus.{OrderStatus}
-use Rattle.market_words.specs.Words.{pieces, both, onto, all_of, number_up_to, number_id, key_in, id_of_pieces, id_of, key_of_pieces, key_of}
+use Rattle.market_words.specs.Words.{both, onto, all_of, number_up_to, number_id, key_in, id_of}
 use Rattle.market_texts.specs.Reading.{cents, quantity, line_of_pieces, ruled_lines, item_of_pieces, ruled_items, status_of, in_progress, row_of_pieces, row_of, item_read, items_read, line_read, lines_read}
 use Rattle.market_words.specs.Results.{◌>>=◌}
-use Rattle.market_events.specs.Texts.{id_text, key_text, line_text, lines_text, item_text, items_text, status_text, row_text}
-use Rattle.market_events.specs.WellFormed.{total_max, most_lines, most_items, IsKey, IsRequestId, IsLine, AreLines, IsItem, AreItems, IsRow, keys_rise}
-use Rattle.market_words.proofs.WordCuts.{Lacks, pieces_joined, joined_pieces, some_pieces, lacks-joined}
+use Rattle.market_events.specs.Texts.{id_text, line_text, lines_text, item_text, items_text, status_text, row_text}
+use Rattle.market_events.specs.WellFormed.{total_max, most_lines, most_items, IsLine, AreLines, IsItem, AreItems, IsRow, keys_rise}
+use Rattle.market_words.proofs.WordCuts.{Lacks, lacks-joined}
 use Rattle.market_words.proofs.WordReads.{ReadsWord, both_reads, both_apart, onto_apart, then_apart, all_read, all_spelled}
 use Rattle.market_words.proofs.WordNumbers.{decimal_lacks, number_id_word}
 use Rattle.market_texts.proofs.WordNumbers.{cents_word, quantity_word, total_word}

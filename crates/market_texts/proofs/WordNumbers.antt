@@ -1,23 +1,17 @@
 -- Numbers as words.
-use Rattle.std.proofs.Common.{◌≡◌, ◌≤◌, ◌<◌, ℕ, ◌*◌, ◌^◌, ◌==◌, ◌&&◌, nat_le, Bool, true, false, cond, List, [], ◌∷◌, length, if◌then◌else◌, Result, Ok, Err, refl, ap, ◌∙◌, arith}
+use Rattle.std.proofs.Common.{◌≡◌, ◌≤◌, ℕ, ◌*◌, ◌==◌, Bool, true, false, cond, List, [], ◌∷◌, length, if◌then◌else◌, Result, Ok, Err, refl, ap, ◌∙◌, arith}
 use Rattle.std.specs.Fmt.{decimal}
 use Rattle.std.specs.List.{AllByRecursion}
 use Rattle.std.proofs.lemmas.Bool.Decides.{nat_tests}
 use Rattle.std.proofs.lemmas.Nat.{mul-le}
-use Rattle.market_amounts.specs.declared.numbers.NumberError.{NumberError}
-use Rattle.market_amounts.specs.declared.numbers.NumberError.TheVariants as number
 use Rattle.market_amounts.specs.Amounts.{amount_of}
-use Rattle.market_amounts.specs.Numbers.{number_of}
-use Rattle.market_amounts.proofs.Decimals.{IsDigit, decimal_digits}
-use Rattle.market_amounts.proofs.Spelling.{number_reads, number_spelled}
 use Rattle.market_events.specs.declared.bodies.PricedLine.{PricedLine}
 use Rattle.market_words.specs.declared.faults.WordFault.{WordFault}
 use Rattle.market_words.specs.declared.faults.WordFault.TheVariants.{Range}
-use Rattle.market_words.specs.Words.{spelled_number, number_up_to, above_zero, number_id}
+use Rattle.market_words.specs.Words.{number_up_to, above_zero}
 use Rattle.market_texts.specs.Reading.{cents, quantity, this_total}
 use Rattle.market_words.specs.Results.{◌>>=◌}
-use Rattle.market_events.specs.WellFormed.{id_max, cents_max, quantity_max, pieces_max, limit_max, total_max, amount_max, IsId, AreCents, ArePieces, IsQuantity, IsLine, AreLines, total_of}
-use Rattle.market_words.proofs.WordCuts.{Lacks}
+use Rattle.market_events.specs.WellFormed.{cents_max, quantity_max, pieces_max, limit_max, total_max, amount_max, AreCents, ArePieces, IsQuantity, IsLine, AreLines, total_of}
 use Rattle.market_words.proofs.WordNumbers.{number_word, positive_word}
 use Rattle.market_words.proofs.WordReads.{ReadsWord, then_apart}
 

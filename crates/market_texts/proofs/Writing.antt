@@ -1,7 +1,6 @@
 -- The texts that are written piece by piece.
-use Rattle.std.proofs.Common.{◌≡◌, ◌<◌, ℕ, zero, suc, ◌+◌, ◌==◌, false, cond, List, [], ◌∷◌, ◌++◌, map, take, get_or, length, length-append, refl, ap, ◌∙◌, sym, append_assoc, add-one, arith}
+use Rattle.std.proofs.Common.{◌≡◌, ℕ, List, [], ◌∷◌, ◌++◌, map, take, length, length-append, refl, ap, ◌∙◌, sym, arith}
 use Rattle.std.specs.List.{flat_map, join_with_byte}
-use Rattle.std.proofs.lemmas.Bool.Decides.{nat_tests}
 use Rattle.std.proofs.lemmas.List.{append-nil, take_at, take-take}
 
 -- each piece after the first has the byte before it

@@ -1,14 +1,12 @@
 -- Texts that are read piece by piece, and what a reader that moves on gives.
 use Rattle.std.specs.Prelude.{◌≡◌, MatchResult, ℕ, ◌+◌, Bool, true, not, ◌||◌, nat_lt, length, List, [], ◌∷◌}
-use Rattle.std.specs.Prelude.{Option, Some, None, Result, Ok, Err}
-use Rattle.std.specs.Borrow.{Bor}
+use Rattle.std.specs.Prelude.{Result, Ok, Err}
 use Rattle.market_events.specs.declared.bodies.PricedLine.{PricedLine}
 use Rattle.market_texts.specs.declared.faults.BodyError.{BodyError}
 use Rattle.market_texts.specs.declared.faults.BodyFault.{BodyFault}
 use Rattle.market_words.specs.declared.faults.WordFault.{WordFault}
 use Rattle.market_events.specs.declared.replies.OrderStatus.{OrderStatus}
 use Rattle.market_texts.specs.Reading.{Words, status_of, in_progress}
-use Rattle.market_words.specs.Words.{pieces}
 use Rattle.market_texts.specs.Readers.{TellsFault}
 use Rattle.market_words.specs.Results.{◌>>=◌}
 use Rattle.market_events.specs.WellFormed.{most_lines, key_below, keys_rise}

@@ -1,14 +1,8 @@
 -- Reading words: each form is read word by word, and the first fault is the answer. Within one word all
 -- spelling comes first, then the ranges of its numbers, and then the rules on lines and items.
-use Rattle.std.specs.Prelude.{ℕ, zero, suc, ◌+◌, ◌==◌, Bool, not, ◌||◌, nat_lt, nat_eq, if◌then◌else◌, List}
+use Rattle.std.specs.Prelude.{ℕ, zero, suc, ◌+◌, ◌==◌, not, ◌||◌, nat_lt, if◌then◌else◌, List}
 use Rattle.std.specs.Prelude.{[], ◌∷◌, length, map, Result, Ok, Err, codes}
-use Rattle.std.specs.List.{slice_split}
-use Rattle.std.specs.Cmp.Lexicographic.{pointwise}
 use Rattle.market_amounts.specs.declared.keys.ProductKey.{ProductKey}
-use Rattle.market_amounts.specs.declared.keys.RequestId.{RequestId}
-use Rattle.market_amounts.specs.declared.numbers.NumberError.{NumberError}
-use Rattle.market_amounts.specs.declared.numbers.NumberError.TheVariants as number
-use Rattle.market_amounts.specs.Numbers.{number_of}
 use Rattle.market_events.specs.declared.bodies.PricedLine.{PricedLine}
 use Rattle.market_events.specs.declared.bodies.Item.{Item}
 use Rattle.market_texts.specs.declared.faults.BodyError.{BodyError}
@@ -21,7 +15,7 @@ use Rattle.market_events.specs.declared.replies.OrderStatus.TheVariants as statu
 use Rattle.market_words.specs.Results.{◌>>=◌}
 use Rattle.market_words.specs.Words.{same_text, pieces, both, onto, all_of, number_up_to, above_zero}
 use Rattle.market_words.specs.Words.{number_id, key_in, id_of}
-use Rattle.market_events.specs.WellFormed.{id_max, cents_max, quantity_max, total_max, most_lines, most_items}
+use Rattle.market_events.specs.WellFormed.{cents_max, quantity_max, total_max, most_lines, most_items}
 use Rattle.market_events.specs.WellFormed.{keys_rise, most_rows_shown}
 
 abbrev pub cents : List ℕ → Result ℕ WordFault

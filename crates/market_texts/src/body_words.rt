@@ -122,8 +122,8 @@ fn ending(words: &mut Words) -> Result<Ending, BodyError>
 // Lines in one word.
 fn line_list(alloc: Global, words: &mut Words) -> Result<List<PricedLine>, BodyFault>
     requires { words.old.place + 1 ≤ u32.MAX }
-    ensures said { Tells result words.new (word lines_read words.old) }
-    ensures near { words.new.place ≤ words.old.place + 1 }
+    ensures reads { Tells result words.new (word lines_read words.old) }
+    ensures one_further { words.new.place ≤ words.old.place + 1 }
 {
     let (place, text) = words.take()?;
     match lines(alloc, text)? {

@@ -20,7 +20,7 @@ use std::alloc::Global;
 /// Reads the request of a text. A text that is that of no well-formed request is refused by its first fault.
 /// It takes no memory, and never answers that memory is wanting.
 pub fn read_request(text: &[u8]) -> Result<Request, BodyFault>
-    ensures said { result ≡ with_fault (request_of_text text.now) }
+    ensures exact { result ≡ with_fault (request_of_text text.now) }
 
     // A request that is read is well formed, and the text is its text.
     ensures formed { IfOk result IsRequest }
@@ -35,7 +35,7 @@ pub fn read_request(text: &[u8]) -> Result<Request, BodyFault>
 
 /// Reads the reply of a text. A text that is that of no well-formed reply is refused by its first fault.
 pub fn read_reply(alloc: Global, text: &[u8]) -> Result<Reply, BodyFault>
-    ensures said { MatchResult result (λ reply. reply_of_text text.now
+    ensures exact { MatchResult result (λ reply. reply_of_text text.now
         ≡ Ok reply) (TellsFault (reply_of_text text.now)) }
 
     // A reply that is read is well formed, and the text is its text.
@@ -51,7 +51,7 @@ pub fn read_reply(alloc: Global, text: &[u8]) -> Result<Reply, BodyFault>
 
 /// Reads the body of a text. A text that is that of no well-formed body is refused by its first fault.
 pub fn read_body(alloc: Global, text: &[u8]) -> Result<Body, BodyFault>
-    ensures said { MatchResult result (λ body. body_of_text text.now
+    ensures exact { MatchResult result (λ body. body_of_text text.now
         ≡ Ok body) (TellsFault (body_of_text text.now)) }
 
     // A body that is read is well formed, and the text is its text.

@@ -63,9 +63,9 @@ impl<'a> Words<'a> {
     // The next word with its number.
     pub(crate) fn take(&mut self) -> Result<(u32, &'a [u8]), BodyError>
         requires { self.old.place + 1 ≤ u32.MAX }
-        ensures said { MatchResult result (λ r. WordTaken self.old self.new r.0 r.1.now) (λ e. (self.old.left
+        ensures reads { MatchResult result (λ r. WordTaken self.old self.new r.0 r.1.now) (λ e. (self.old.left
             ≡ []) × (e ≡ BodyError.Field self.old.place)) }
-        ensures near { self.new.place ≤ self.old.place + 1 }
+        ensures one_further { self.new.place ≤ self.old.place + 1 }
     {
         self.next().ok_or(BodyError::Field(self.place))
     }
@@ -84,8 +84,8 @@ impl<'a> Words<'a> {
     // A number of 32 bits: it names something or counts it.
     pub(crate) fn number(&mut self) -> Result<u32, BodyError>
         requires { self.old.place + 1 ≤ u32.MAX }
-        ensures said { outcome result self.new ≡ word number_id self.old }
-        ensures near { self.new.place ≤ self.old.place + 1 }
+        ensures reads { outcome result self.new ≡ word number_id self.old }
+        ensures one_further { self.new.place ≤ self.old.place + 1 }
     {
         let (place, text) = self.take()?;
         id_number(text).map_err(|fault| fault_of_word(fault, place))
@@ -94,8 +94,8 @@ impl<'a> Words<'a> {
     // A number up to a limit.
     fn number_up_to(&mut self, limit: u64) -> Result<u64, BodyError>
         requires { self.old.place + 1 ≤ u32.MAX }
-        ensures said { outcome result self.new ≡ word (number_up_to limit) self.old }
-        ensures near { self.new.place ≤ self.old.place + 1 }
+        ensures reads { outcome result self.new ≡ word (number_up_to limit) self.old }
+        ensures one_further { self.new.place ≤ self.old.place + 1 }
     {
         let (place, text) = self.take()?;
         number_within(text, limit).map_err(|fault| fault_of_word(fault, place))
@@ -104,8 +104,8 @@ impl<'a> Words<'a> {
     // The total of a checkout.
     pub(crate) fn total(&mut self) -> Result<u64, BodyError>
         requires { self.old.place + 1 ≤ u32.MAX }
-        ensures said { outcome result self.new ≡ total self.old }
-        ensures near { self.new.place ≤ self.old.place + 1 }
+        ensures reads { outcome result self.new ≡ total self.old }
+        ensures one_further { self.new.place ≤ self.old.place + 1 }
     {
         self.number_up_to(u64::MAX)
     }
@@ -113,8 +113,8 @@ impl<'a> Words<'a> {
     // Pieces on hand or reserved.
     pub(crate) fn pieces(&mut self) -> Result<u64, BodyError>
         requires { self.old.place + 1 ≤ u32.MAX }
-        ensures said { outcome result self.new ≡ pieces_number self.old }
-        ensures near { self.new.place ≤ self.old.place + 1 }
+        ensures reads { outcome result self.new ≡ pieces_number self.old }
+        ensures one_further { self.new.place ≤ self.old.place + 1 }
     {
         self.number_up_to(u64::from(MOST_PIECES))
     }
@@ -122,9 +122,9 @@ impl<'a> Words<'a> {
     // Pieces that are stocked: at least one.
     pub(crate) fn some_pieces(&mut self) -> Result<u32, BodyError>
         requires { self.old.place + 1 ≤ u32.MAX }
-        ensures said { outcome result self.new
+        ensures reads { outcome result self.new
             ≡ word (λ text. above_zero (number_up_to pieces_max text)) self.old }
-        ensures near { self.new.place ≤ self.old.place + 1 }
+        ensures one_further { self.new.place ≤ self.old.place + 1 }
     {
         let (place, text) = self.take()?;
         some_number(text, MOST_PIECES).map_err(|fault| fault_of_word(fault, place))
@@ -133,8 +133,8 @@ impl<'a> Words<'a> {
     // The limit of a card.
     pub(crate) fn limit(&mut self) -> Result<u64, BodyError>
         requires { self.old.place + 1 ≤ u32.MAX }
-        ensures said { outcome result self.new ≡ word (number_up_to limit_max) self.old }
-        ensures near { self.new.place ≤ self.old.place + 1 }
+        ensures reads { outcome result self.new ≡ word (number_up_to limit_max) self.old }
+        ensures one_further { self.new.place ≤ self.old.place + 1 }
     {
         self.number_up_to(MOST_LIMIT)
     }
@@ -142,8 +142,8 @@ impl<'a> Words<'a> {
     // The amount of a dashboard.
     pub(crate) fn amount(&mut self) -> Result<u128, BodyError>
         requires { self.old.place + 1 ≤ u32.MAX }
-        ensures said { outcome result self.new ≡ word (number_up_to amount_max) self.old }
-        ensures near { self.new.place ≤ self.old.place + 1 }
+        ensures reads { outcome result self.new ≡ word (number_up_to amount_max) self.old }
+        ensures one_further { self.new.place ≤ self.old.place + 1 }
     {
         let (place, text) = self.take()?;
         wide_number(text).map_err(|fault| fault_of_word(fault, place))
@@ -161,8 +161,8 @@ impl<'a> Words<'a> {
     // A price, a freight or a voucher.
     pub(crate) fn cents(&mut self) -> Result<Cents, BodyError>
         requires { self.old.place + 1 ≤ u32.MAX }
-        ensures said { outcome result self.new ≡ word cents self.old }
-        ensures near { self.new.place ≤ self.old.place + 1 }
+        ensures reads { outcome result self.new ≡ word cents self.old }
+        ensures one_further { self.new.place ≤ self.old.place + 1 }
     {
         let (place, text) = self.take()?;
         cents(text).map_err(|fault| fault_of_word(fault, place))
@@ -171,8 +171,8 @@ impl<'a> Words<'a> {
     // The pieces of a line.
     pub(crate) fn quantity(&mut self) -> Result<Quantity, BodyError>
         requires { self.old.place + 1 ≤ u32.MAX }
-        ensures said { outcome result self.new ≡ word quantity self.old }
-        ensures near { self.new.place ≤ self.old.place + 1 }
+        ensures reads { outcome result self.new ≡ word quantity self.old }
+        ensures one_further { self.new.place ≤ self.old.place + 1 }
     {
         let (place, text) = self.take()?;
         quantity(text).map_err(|fault| fault_of_word(fault, place))
@@ -181,8 +181,8 @@ impl<'a> Words<'a> {
     // The id of a request or a checkout.
     pub(crate) fn id(&mut self) -> Result<RequestId, BodyError>
         requires { self.old.place + 1 ≤ u32.MAX }
-        ensures said { outcome result self.new ≡ word id_of self.old }
-        ensures near { self.new.place ≤ self.old.place + 1 }
+        ensures reads { outcome result self.new ≡ word id_of self.old }
+        ensures one_further { self.new.place ≤ self.old.place + 1 }
     {
         let (place, text) = self.take()?;
         id(text).map_err(|fault| fault_of_word(fault, place))
@@ -191,8 +191,8 @@ impl<'a> Words<'a> {
     // A key in one word.
     pub(crate) fn key(&mut self) -> Result<ProductKey, BodyError>
         requires { self.old.place + 1 ≤ u32.MAX }
-        ensures said { outcome result self.new ≡ word key_of self.old }
-        ensures near { self.new.place ≤ self.old.place + 1 }
+        ensures reads { outcome result self.new ≡ word key_of self.old }
+        ensures one_further { self.new.place ≤ self.old.place + 1 }
     {
         let (place, text) = self.take()?;
         key(text).map_err(|fault| fault_of_word(fault, place))
@@ -201,8 +201,8 @@ impl<'a> Words<'a> {
     // Seller and product, a word each.
     pub(crate) fn seller_product(&mut self) -> Result<ProductKey, BodyError>
         requires { self.old.place + 2 ≤ u32.MAX }
-        ensures said { outcome result self.new ≡ key_words self.old }
-        ensures near { self.new.place ≤ self.old.place + 2 }
+        ensures reads { outcome result self.new ≡ key_words self.old }
+        ensures two_further { self.new.place ≤ self.old.place + 2 }
     {
         let seller = self.number()?;
         let product = self.number()?;
@@ -212,8 +212,8 @@ impl<'a> Words<'a> {
     // The status of an order.
     pub(crate) fn status(&mut self) -> Result<OrderStatus, BodyError>
         requires { self.old.place + 1 ≤ u32.MAX }
-        ensures said { outcome result self.new ≡ word status_of self.old }
-        ensures near { self.new.place ≤ self.old.place + 1 }
+        ensures reads { outcome result self.new ≡ word status_of self.old }
+        ensures one_further { self.new.place ≤ self.old.place + 1 }
     {
         let (place, text) = self.take()?;
         status(text).map_err(|fault| fault_of_word(fault, place))
@@ -222,7 +222,7 @@ impl<'a> Words<'a> {
     // Why a request was refused.
     pub(crate) fn rule(&mut self) -> Result<Rule, BodyError>
         requires { self.old.place + 1 ≤ u32.MAX }
-        ensures said { outcome result self.new ≡ word rule_of self.old }
+        ensures reads { outcome result self.new ≡ word rule_of self.old }
     {
         let (place, text) = self.take()?;
         rule(text).map_err(|fault| fault_of_word(fault, place))
@@ -231,7 +231,7 @@ impl<'a> Words<'a> {
     // Why stock reserved nothing.
     pub(crate) fn stock_rule(&mut self) -> Result<StockRule, BodyError>
         requires { self.old.place + 1 ≤ u32.MAX }
-        ensures said { outcome result self.new ≡ word stock_rule_of self.old }
+        ensures reads { outcome result self.new ≡ word stock_rule_of self.old }
     {
         let (place, text) = self.take()?;
         stock_rule(text).map_err(|fault| fault_of_word(fault, place))
@@ -240,7 +240,7 @@ impl<'a> Words<'a> {
     // Why a payment failed.
     pub(crate) fn pay_rule(&mut self) -> Result<PayRule, BodyError>
         requires { self.old.place + 1 ≤ u32.MAX }
-        ensures said { outcome result self.new ≡ word pay_rule_of self.old }
+        ensures reads { outcome result self.new ≡ word pay_rule_of self.old }
     {
         let (place, text) = self.take()?;
         pay_rule(text).map_err(|fault| fault_of_word(fault, place))

@@ -21,10 +21,10 @@ use crate::places::{Place, place_of};
 use cart_service::Carts;
 use customer_service::Customers;
 use market_events::{
-    Cell, Event, LANES, Link, Node, Offer, Request, Service, receiver_of, sender_of,
+    Cell, Event, LANES, Link, Node, Offer, Request, Role, Service, receiver_of, sender_of,
 };
 use market_history::{Give, Journal};
-use market_node::NodeCore;
+use market_node::{Core, NodeCore};
 use order_service::Orders;
 use payment_service::Payments;
 use product_service::Products;
@@ -100,14 +100,14 @@ impl Cores {
         ensures entries { result.now.entries ≡ journal_at self.now node }
     {
         match place_of(node) {
-            Place::Cart => self.cart.journal(),
-            Place::Product => self.product.journal(),
-            Place::Stock => self.stock.journal(),
-            Place::Order => self.order.journal(),
-            Place::Payment => self.payment.journal(),
-            Place::Shipment => self.shipment.journal(),
-            Place::Customer => self.customer.journal(),
-            Place::Seller => self.seller.journal(),
+            Place::Service(Role::Cart) => self.cart.journal(),
+            Place::Service(Role::Product) => self.product.journal(),
+            Place::Service(Role::Stock) => self.stock.journal(),
+            Place::Service(Role::Order) => self.order.journal(),
+            Place::Service(Role::Payment) => self.payment.journal(),
+            Place::Service(Role::Shipment) => self.shipment.journal(),
+            Place::Service(Role::Customer) => self.customer.journal(),
+            Place::Service(Role::Seller) => self.seller.journal(),
             Place::Lane(lane) => self.lanes.journal(lane),
         }
     }
@@ -119,14 +119,14 @@ impl Cores {
         ensures { option_copied result ≡ event_with link number (journal_at self.now (sender_by_link link)) }
     {
         match place_of(sender_of(link)) {
-            Place::Cart => self.cart.event(link, number),
-            Place::Product => self.product.event(link, number),
-            Place::Stock => self.stock.event(link, number),
-            Place::Order => self.order.event(link, number),
-            Place::Payment => self.payment.event(link, number),
-            Place::Shipment => self.shipment.event(link, number),
-            Place::Customer => self.customer.event(link, number),
-            Place::Seller => self.seller.event(link, number),
+            Place::Service(Role::Cart) => self.cart.event(link, number),
+            Place::Service(Role::Product) => self.product.event(link, number),
+            Place::Service(Role::Stock) => self.stock.event(link, number),
+            Place::Service(Role::Order) => self.order.event(link, number),
+            Place::Service(Role::Payment) => self.payment.event(link, number),
+            Place::Service(Role::Shipment) => self.shipment.event(link, number),
+            Place::Service(Role::Customer) => self.customer.event(link, number),
+            Place::Service(Role::Seller) => self.seller.event(link, number),
             Place::Lane(lane) => self.lanes.event(lane, link, number),
         }
     }
@@ -138,14 +138,14 @@ impl Cores {
         ensures { result ≡ taken_on (events_taken (journal_at self.now (receiver_by_link link))) link }
     {
         match place_of(receiver_of(link)) {
-            Place::Cart => self.cart.taken(link),
-            Place::Product => self.product.taken(link),
-            Place::Stock => self.stock.taken(link),
-            Place::Order => self.order.taken(link),
-            Place::Payment => self.payment.taken(link),
-            Place::Shipment => self.shipment.taken(link),
-            Place::Customer => self.customer.taken(link),
-            Place::Seller => self.seller.taken(link),
+            Place::Service(Role::Cart) => self.cart.taken(link),
+            Place::Service(Role::Product) => self.product.taken(link),
+            Place::Service(Role::Stock) => self.stock.taken(link),
+            Place::Service(Role::Order) => self.order.taken(link),
+            Place::Service(Role::Payment) => self.payment.taken(link),
+            Place::Service(Role::Shipment) => self.shipment.taken(link),
+            Place::Service(Role::Customer) => self.customer.taken(link),
+            Place::Service(Role::Seller) => self.seller.taken(link),
             Place::Lane(lane) => self.lanes.taken(lane, link),
         }
     }
@@ -161,14 +161,14 @@ impl Cores {
             (journal_at self.old (receiver_by_link event.now.link)) event.now result) }
     {
         match place_of(receiver_of(event.link)) {
-            Place::Cart => take_at(&mut self.cart, event),
-            Place::Product => take_at(&mut self.product, event),
-            Place::Stock => take_at(&mut self.stock, event),
-            Place::Order => take_at(&mut self.order, event),
-            Place::Payment => take_at(&mut self.payment, event),
-            Place::Shipment => take_at(&mut self.shipment, event),
-            Place::Customer => take_at(&mut self.customer, event),
-            Place::Seller => take_at(&mut self.seller, event),
+            Place::Service(Role::Cart) => take_at(&mut self.cart, event),
+            Place::Service(Role::Product) => take_at(&mut self.product, event),
+            Place::Service(Role::Stock) => take_at(&mut self.stock, event),
+            Place::Service(Role::Order) => take_at(&mut self.order, event),
+            Place::Service(Role::Payment) => take_at(&mut self.payment, event),
+            Place::Service(Role::Shipment) => take_at(&mut self.shipment, event),
+            Place::Service(Role::Customer) => take_at(&mut self.customer, event),
+            Place::Service(Role::Seller) => take_at(&mut self.seller, event),
             Place::Lane(lane) => self.lanes.take(lane, event),
         }
     }
@@ -191,14 +191,14 @@ impl Cores {
         ensures { IfOk result (λ cells. cells.items ≡ cells_at self.now node) }
     {
         match place_of(node) {
-            Place::Cart => self.cart.cells(),
-            Place::Product => self.product.cells(),
-            Place::Stock => self.stock.cells(),
-            Place::Order => self.order.cells(),
-            Place::Payment => self.payment.cells(),
-            Place::Shipment => self.shipment.cells(),
-            Place::Customer => self.customer.cells(),
-            Place::Seller => self.seller.cells(),
+            Place::Service(Role::Cart) => self.cart.cells(),
+            Place::Service(Role::Product) => self.product.cells(),
+            Place::Service(Role::Stock) => self.stock.cells(),
+            Place::Service(Role::Order) => self.order.cells(),
+            Place::Service(Role::Payment) => self.payment.cells(),
+            Place::Service(Role::Shipment) => self.shipment.cells(),
+            Place::Service(Role::Customer) => self.customer.cells(),
+            Place::Service(Role::Seller) => self.seller.cells(),
             Place::Lane(_) => Ok(Vec::new(self.alloc)),
         }
     }

@@ -12,7 +12,7 @@ ghost use Rattle.market_world.specs.Arriving.{CanOffer, CanGive, after_offer_of,
 
 use market_events::{Event, LANES, Link, Offer, Request};
 use market_history::{Give, Journal};
-use market_node::LaneCore;
+use market_node::{Core, LaneCore};
 use std::alloc::{AllocError, Global};
 use std::marker::Model;
 

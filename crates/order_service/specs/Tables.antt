@@ -1,5 +1,5 @@
 -- The table of the orders: what it has of a checkout, and what a body leaves of that.
-use Rattle.std.specs.Prelude.{◌≡◌, ℕ, ◌-◌, Bool, ◌==◌, ◌&&◌, nat_lt, List, Option, Some, None, length}
+use Rattle.std.specs.Prelude.{ℕ, ◌-◌, Bool, ◌==◌, ◌&&◌, nat_lt, List, Option, Some, None, length}
 use Rattle.std.specs.Prelude.{count_by, option_map, if◌then◌else◌}
 use Rattle.std.specs.BTreeMap.{is_at}
 use Rattle.std.specs.Map.{lookup}

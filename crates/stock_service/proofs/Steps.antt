@@ -20,7 +20,6 @@ use Rattle.market_events.specs.declared.requests.Request.{Request}
 use Rattle.market_events.specs.Carts.{changes_taken}
 use Rattle.market_events.specs.Copies.{copy_of}
 use Rattle.market_events.specs.Orders.{is_taken}
-use Rattle.market_events.specs.Products.{change_in}
 use Rattle.market_events.specs.Requests.{same_id, same_key}
 use Rattle.market_events.specs.declared.roles.Role.{Role}
 use Rattle.market_events.specs.Services.{IsRunOf, fits, reactions, reserves, is_known, stock_fits, change_fits}

@@ -23,11 +23,10 @@ use Rattle.market_events.specs.declared.requests.Ask.{Ask}
 use Rattle.market_events.specs.declared.requests.Ask.TheVariants as ask
 use Rattle.market_events.specs.declared.requests.Request.{Request}
 use Rattle.market_events.specs.Carts.{changes_taken}
-use Rattle.market_events.specs.Cells.{cells_of, level_cell, held_cell, stock_cells, look_cells, text_cmp}
+use Rattle.market_events.specs.Cells.{cells_of, level_cell, held_cell, look_cells, text_cmp}
 use Rattle.market_events.specs.Copies.{last_some, copy_of}
 use Rattle.market_events.specs.Formed.{key_formed, id_formed, change_formed, line_formed, lines_formed}
 use Rattle.market_events.specs.Orders.{is_taken}
-use Rattle.market_events.specs.Products.{change_in}
 use Rattle.market_events.specs.Requests.{same_key, same_id}
 use Rattle.market_events.specs.declared.roles.Role.{Role}
 use Rattle.market_events.specs.Services.{IsRunOf, fits, reserves, is_known}

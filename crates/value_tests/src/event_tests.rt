@@ -1,7 +1,7 @@
 //! Copies of events and entries, which succeed here, and counts of events.
 
 use market_amounts::{ProductKey, RequestId};
-use market_events::{Ask, Body, Counts, Entry, Event, Link, Reply, Request, What};
+use market_events::{Ask, Body, Counts, Entry, Event, PRODUCT_TO_STOCK, Reply, Request, What};
 use std::test::Fail;
 
 #[test]
@@ -34,7 +34,7 @@ fn entries_are_copied(rt: HostRuntime) -> Result<(), Fail> {
 #[test]
 fn events_are_copied(rt: HostRuntime) -> Result<(), Fail> {
     let event = Event {
-        link: Link::Service(1),
+        link: PRODUCT_TO_STOCK,
         number: 2,
         clock: 6,
         past: Counts::zero(),

@@ -12,7 +12,7 @@ ghost use Rattle.world_tests.specs.TestedNodes.{IsSmall, IsWithin, GrewLittle};
 use market_amounts::{ProductKey, RequestId};
 use market_events::{Ask, Body, Counts, Event, Link, Offer, Reply, Request};
 use market_history::Give;
-use market_node::LaneCore;
+use market_node::{Core, LaneCore};
 use std::alloc::AllocError;
 use std::process::Abort;
 use std::test::Fail;

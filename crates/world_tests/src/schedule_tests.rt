@@ -7,7 +7,10 @@ ghost use Rattle.market_history.specs.Schedule.{IsPlayable};
 
 use crate::table_tests;
 use market_amounts::RequestId;
-use market_events::{LINKS, Link, Node, Offer, Reply, Request, What, link_at};
+use market_events::{
+    CART_TO_STOCK, LINKS, Link, Node, Offer, PRODUCT_TO_CART, PRODUCT_TO_STOCK, Reply, Request,
+    STOCK_TO_CART, What, link_at,
+};
 use market_history::{Give, Outcome, Step};
 use market_texts::{read_reply, read_request};
 use market_world::{World, oldest, run_schedule, settled};
@@ -125,7 +128,7 @@ fn set_a_line_early(rt: &impl Abort, world: &mut World) {
     offer(rt, world, Link::Told(1, 7), 1, Offer::Take);
     give(rt, world, &line, Give::Asked);
     offer(rt, world, Link::Asked(7, 0), 1, Offer::NotReady);
-    offer(rt, world, Link::Service(0), 1, Offer::Take);
+    offer(rt, world, PRODUCT_TO_CART, 1, Offer::Take);
     offer(rt, world, Link::Asked(7, 0), 1, Offer::Take);
     offer(rt, world, Link::Told(0, 7), 1, Offer::Take);
 }
@@ -135,13 +138,13 @@ fn check_out_early(rt: &impl Abort, world: &mut World) {
     let checkout = request_of(rt, b"7.3 checkout 7");
     give(rt, world, &checkout, Give::Asked);
     offer(rt, world, Link::Asked(7, 0), 2, Offer::Take);
-    offer(rt, world, Link::Service(2), 1, Offer::NotReady);
-    offer(rt, world, Link::Service(1), 1, Offer::Take);
-    offer(rt, world, Link::Service(2), 1, Offer::Take);
-    offer(rt, world, Link::Service(2), 1, Offer::Old);
-    let never_made = outcome(rt, world, Step::Offer(Link::Service(2), 2));
+    offer(rt, world, CART_TO_STOCK, 1, Offer::NotReady);
+    offer(rt, world, PRODUCT_TO_STOCK, 1, Offer::Take);
+    offer(rt, world, CART_TO_STOCK, 1, Offer::Take);
+    offer(rt, world, CART_TO_STOCK, 1, Offer::Old);
+    let never_made = outcome(rt, world, Step::Offer(CART_TO_STOCK, 2));
     assert_eq!(rt; never_made, Some(Outcome::NeverMade));
-    let acked = outcome(rt, world, Step::Ack(Link::Service(2), 1));
+    let acked = outcome(rt, world, Step::Ack(CART_TO_STOCK, 1));
     assert_eq!(rt; acked, Some(Outcome::Acked));
 }
 
@@ -155,8 +158,8 @@ fn check_line_waits(rt: &(impl Abort + AllocGlobal), world: &mut World) {
     set_a_line_early(rt, world);
     check_out_early(rt, world);
     assert!(rt; !settled(world));
-    assert_eq!(rt; oldest(world), Some((Link::Service(3), 1)));
-    offer(rt, world, Link::Service(3), 1, Offer::Take);
+    assert_eq!(rt; oldest(world), Some((STOCK_TO_CART, 1)));
+    offer(rt, world, STOCK_TO_CART, 1, Offer::Take);
     offer(rt, world, Link::Told(0, 7), 2, Offer::Take);
     assert!(rt; settled(world));
     let id = RequestId {

@@ -5,7 +5,7 @@ use crate::schedule_tests::{
     Case, answer, expect_answer, expect_cells, give, offer, play, reply_of, request_of, settle,
 };
 use market_amounts::RequestId;
-use market_events::{Link, Offer};
+use market_events::{CART_TO_STOCK, Link, Offer};
 use market_history::Give;
 use market_world::World;
 use std::process::Abort;
@@ -58,7 +58,7 @@ pub fn check_over_the_limit(rt: &(impl Abort + AllocGlobal), world: &mut World) 
     set_a_line(rt, world, b"7.3 card 7 1949");
     give(rt, world, &checkout, Give::Asked);
     offer(rt, world, Link::Asked(7, 0), 2, Offer::Take);
-    offer(rt, world, Link::Service(2), 1, Offer::Take);
+    offer(rt, world, CART_TO_STOCK, 1, Offer::Take);
     expect_cells(
         rt,
         world,
@@ -102,7 +102,7 @@ pub fn check_all_lines_or_none(rt: &(impl Abort + AllocGlobal), world: &mut Worl
     set_two_lines(rt, world);
     give(rt, world, &checkout, Give::Asked);
     offer(rt, world, Link::Asked(7, 0), 3, Offer::Take);
-    offer(rt, world, Link::Service(2), 1, Offer::Take);
+    offer(rt, world, CART_TO_STOCK, 1, Offer::Take);
     expect_none_held(rt, world);
     settle(rt, world);
     expect_answer(rt, world, SEVEN, of_seven(8), &short);
@@ -215,8 +215,8 @@ fn check_out(rt: &impl Abort, world: &mut World) {
 
 // Stock takes both checkouts in the order in which they came to the cart.
 fn reserve(rt: &impl Abort, world: &mut World) {
-    offer(rt, world, Link::Service(2), 1, Offer::Take);
-    offer(rt, world, Link::Service(2), 2, Offer::Take);
+    offer(rt, world, CART_TO_STOCK, 1, Offer::Take);
+    offer(rt, world, CART_TO_STOCK, 2, Offer::Take);
 }
 
 #[test]

@@ -64,8 +64,8 @@ module _ (taken : Taken) (acts : Acts) (runs : AreRuns taken) (tables : HasTable
 
     carried_short : Traced (with_request taken r) ((CART_TO_STOCK, body.Reserve id customer lines) ∷ []) short_trace
     carried_short =
-        then_passed _ 2 _ _ _ _ (stocks.reserve_fits taken.stocks acts tables.stocks (runs Role.Stock) id customer lines (new.fresh Role.Stock) formed known (new.few Role.Stock)) refused
-        (then_passed _ 3 _ _ _ _ (short_fits taken.carts acts tables.carts (link_asked r) id customer lines (new.fresh Role.Cart) (new.few Role.Cart) sent key stock.Short short_formed) (short_made taken.carts acts tables.carts (link_asked r) id customer lines (new.fresh Role.Cart) (new.few Role.Cart) sent key stock.Short short_formed)
+        then_passed _ CART_TO_STOCK _ _ _ _ (stocks.reserve_fits taken.stocks acts tables.stocks (runs Role.Stock) id customer lines (new.fresh Role.Stock) formed known (new.few Role.Stock)) refused
+        (then_passed _ STOCK_TO_CART _ _ _ _ (short_fits taken.carts acts tables.carts (link_asked r) id customer lines (new.fresh Role.Cart) (new.few Role.Cart) sent key stock.Short short_formed) (short_made taken.carts acts tables.carts (link_asked r) id customer lines (new.fresh Role.Cart) (new.few Role.Cart) sent key stock.Short short_formed)
         (then_told _ cart_node id (reply.Undone (undone.Short key))))
 
     abbrev after : Acts

@@ -7,10 +7,7 @@ use Rattle.market_events.specs.declared.bodies.Body.TheVariants as body
 use Rattle.market_events.specs.declared.bodies.Ending.TheVariants as ending
 use Rattle.market_events.specs.declared.bodies.PayRule.{PayRule}
 use Rattle.market_events.specs.declared.bodies.PricedLine.{PricedLine}
-use Rattle.market_events.specs.declared.links.TheConstants.{CART_TO_STOCK, STOCK_TO_ORDER, ORDER_TO_PAYMENT}
-use Rattle.market_events.specs.declared.links.TheConstants.{ORDER_TO_SELLER, ORDER_TO_CART, PAYMENT_TO_STOCK}
-use Rattle.market_events.specs.declared.links.TheConstants.{PAYMENT_TO_ORDER, PAYMENT_TO_CUSTOMER}
-use Rattle.market_events.specs.declared.links.TheConstants.{PAYMENT_TO_SELLER}
+use Rattle.market_events.specs.declared.links.TheConstants.{CART_TO_STOCK, STOCK_TO_ORDER, ORDER_TO_PAYMENT, ORDER_TO_SELLER, ORDER_TO_CART, PAYMENT_TO_STOCK, PAYMENT_TO_ORDER, PAYMENT_TO_CUSTOMER, PAYMENT_TO_SELLER}
 use Rattle.market_events.specs.declared.replies.Reply.TheVariants as reply
 use Rattle.market_events.specs.declared.requests.Ask.TheVariants as ask
 use Rattle.market_events.specs.declared.requests.Request.{Request}
@@ -75,15 +72,15 @@ module _ (taken : Taken) (acts : Acts) (runs : AreRuns taken) (tables : HasTable
     module _ (refused : answers Role.Payment taken.payments ORDER_TO_PAYMENT invoice ≡ failed_rows failed) where
       carried_unpaid : Traced (with_request taken r) ((CART_TO_STOCK, body.Reserve id customer lines) ∷ []) unpaid_trace
       carried_unpaid =
-          then_passed _ 2 _ _ _ _ (stocks.reserve_fits taken.stocks acts tables.stocks (runs Role.Stock) id customer lines (new.fresh Role.Stock) formed known (new.few Role.Stock)) reserved
-          (then_passed _ 4 _ _ _ _ (orders.invoice_fits taken.orders acts tables.orders id customer lines (new.fresh Role.Order) formed (new.few Role.Order)) (orders.invoice_made taken.orders acts tables.orders id customer lines (new.fresh Role.Order) formed (new.few Role.Order))
-          (then_passed _ 6 _ _ _ _ (sellers.seller_invoice_fits taken.sellers acts tables.sellers id customer lines (new.fresh Role.Seller) new_checkout formed (new.few Role.Seller)) (sellers.seller_invoice_made taken.sellers acts tables.sellers id customer lines (new.fresh Role.Seller) new_checkout formed (new.few Role.Seller))
-          (then_passed _ 5 _ _ _ _ (payments.invoice_fits taken.payments acts tables.payments id customer lines (new.fresh Role.Payment) formed (new.few Role.Payment)) refused
-          (then_passed _ 8 _ _ _ _ (stocks.stock_failure_fits taken.stocks acts tables.stocks (runs Role.Stock) id customer lines (new.fresh Role.Stock) formed known (new.few Role.Stock) reserved reason) (stocks.stock_failure_made taken.stocks acts tables.stocks (runs Role.Stock) id customer lines (new.fresh Role.Stock) formed known (new.few Role.Stock) reserved reason)
-          (then_passed _ 11 _ _ _ _ (customers.failure_fits taken.customers acts tables.customers id customer lines (new.fresh Role.Customer) formed (new.few Role.Customer) reason) (customers.failure_made taken.customers acts tables.customers id customer lines (new.fresh Role.Customer) formed (new.few Role.Customer) reason)
-          (then_passed _ 12 _ _ _ _ (sellers.seller_failure_fits taken.sellers acts tables.sellers id customer lines (new.fresh Role.Seller) new_checkout formed (new.few Role.Seller) reason) (sellers.seller_failure_made taken.sellers acts tables.sellers id customer lines (new.fresh Role.Seller) new_checkout formed (new.few Role.Seller) reason)
-          (then_passed _ 9 _ _ _ _ (orders.failed_fits taken.orders acts tables.orders id customer lines (new.fresh Role.Order) formed (new.few Role.Order) reason) (orders.failed_made taken.orders acts tables.orders id customer lines (new.fresh Role.Order) formed (new.few Role.Order) reason)
-          (then_passed _ 7 _ _ _ _ (ended_fits taken.carts acts tables.carts (link_asked r) id customer lines (new.fresh Role.Cart) (new.few Role.Cart) sent (ending.Undone reason) ended_formed) (ended_made taken.carts acts tables.carts (link_asked r) id customer lines (new.fresh Role.Cart) (new.few Role.Cart) sent (ending.Undone reason) ended_formed)
+          then_passed _ CART_TO_STOCK _ _ _ _ (stocks.reserve_fits taken.stocks acts tables.stocks (runs Role.Stock) id customer lines (new.fresh Role.Stock) formed known (new.few Role.Stock)) reserved
+          (then_passed _ STOCK_TO_ORDER _ _ _ _ (orders.invoice_fits taken.orders acts tables.orders id customer lines (new.fresh Role.Order) formed (new.few Role.Order)) (orders.invoice_made taken.orders acts tables.orders id customer lines (new.fresh Role.Order) formed (new.few Role.Order))
+          (then_passed _ ORDER_TO_SELLER _ _ _ _ (sellers.seller_invoice_fits taken.sellers acts tables.sellers id customer lines (new.fresh Role.Seller) new_checkout formed (new.few Role.Seller)) (sellers.seller_invoice_made taken.sellers acts tables.sellers id customer lines (new.fresh Role.Seller) new_checkout formed (new.few Role.Seller))
+          (then_passed _ ORDER_TO_PAYMENT _ _ _ _ (payments.invoice_fits taken.payments acts tables.payments id customer lines (new.fresh Role.Payment) formed (new.few Role.Payment)) refused
+          (then_passed _ PAYMENT_TO_STOCK _ _ _ _ (stocks.stock_failure_fits taken.stocks acts tables.stocks (runs Role.Stock) id customer lines (new.fresh Role.Stock) formed known (new.few Role.Stock) reserved reason) (stocks.stock_failure_made taken.stocks acts tables.stocks (runs Role.Stock) id customer lines (new.fresh Role.Stock) formed known (new.few Role.Stock) reserved reason)
+          (then_passed _ PAYMENT_TO_CUSTOMER _ _ _ _ (customers.failure_fits taken.customers acts tables.customers id customer lines (new.fresh Role.Customer) formed (new.few Role.Customer) reason) (customers.failure_made taken.customers acts tables.customers id customer lines (new.fresh Role.Customer) formed (new.few Role.Customer) reason)
+          (then_passed _ PAYMENT_TO_SELLER _ _ _ _ (sellers.seller_failure_fits taken.sellers acts tables.sellers id customer lines (new.fresh Role.Seller) new_checkout formed (new.few Role.Seller) reason) (sellers.seller_failure_made taken.sellers acts tables.sellers id customer lines (new.fresh Role.Seller) new_checkout formed (new.few Role.Seller) reason)
+          (then_passed _ PAYMENT_TO_ORDER _ _ _ _ (orders.failed_fits taken.orders acts tables.orders id customer lines (new.fresh Role.Order) formed (new.few Role.Order) reason) (orders.failed_made taken.orders acts tables.orders id customer lines (new.fresh Role.Order) formed (new.few Role.Order) reason)
+          (then_passed _ ORDER_TO_CART _ _ _ _ (ended_fits taken.carts acts tables.carts (link_asked r) id customer lines (new.fresh Role.Cart) (new.few Role.Cart) sent (ending.Undone reason) ended_formed) (ended_made taken.carts acts tables.carts (link_asked r) id customer lines (new.fresh Role.Cart) (new.few Role.Cart) sent (ending.Undone reason) ended_formed)
           (then_told _ cart_node id (reply.Undone (undone_by_payment reason)))))))))))
 
       abbrev after : Acts

@@ -6,11 +6,7 @@ use Rattle.market_events.specs.declared.bodies.Body.{Body}
 use Rattle.market_events.specs.declared.bodies.Body.TheVariants as body
 use Rattle.market_events.specs.declared.bodies.Ending.TheVariants as ending
 use Rattle.market_events.specs.declared.bodies.PricedLine.{PricedLine}
-use Rattle.market_events.specs.declared.links.TheConstants.{CART_TO_STOCK, STOCK_TO_ORDER, ORDER_TO_PAYMENT}
-use Rattle.market_events.specs.declared.links.TheConstants.{ORDER_TO_SELLER, ORDER_TO_CART, PAYMENT_TO_STOCK}
-use Rattle.market_events.specs.declared.links.TheConstants.{PAYMENT_TO_ORDER, PAYMENT_TO_SHIPMENT}
-use Rattle.market_events.specs.declared.links.TheConstants.{PAYMENT_TO_CUSTOMER, PAYMENT_TO_SELLER}
-use Rattle.market_events.specs.declared.links.TheConstants.{SHIPMENT_TO_ORDER, SHIPMENT_TO_SELLER}
+use Rattle.market_events.specs.declared.links.TheConstants.{CART_TO_STOCK, STOCK_TO_ORDER, ORDER_TO_PAYMENT, ORDER_TO_SELLER, ORDER_TO_CART, PAYMENT_TO_STOCK, PAYMENT_TO_ORDER, PAYMENT_TO_SHIPMENT, PAYMENT_TO_CUSTOMER, PAYMENT_TO_SELLER, SHIPMENT_TO_ORDER, SHIPMENT_TO_SELLER}
 use Rattle.market_events.specs.declared.replies.Reply.TheVariants as reply
 use Rattle.market_events.specs.declared.requests.Ask.TheVariants as ask
 use Rattle.market_events.specs.declared.requests.Request.{Request}
@@ -69,18 +65,18 @@ module _ (taken : Taken) (acts : Acts) (runs : AreRuns taken) (tables : HasTable
     module _ (confirmed : answers Role.Payment taken.payments ORDER_TO_PAYMENT invoice ≡ confirmed_rows paid) where
       carried_whole : Traced (with_request taken r) ((CART_TO_STOCK, body.Reserve id customer lines) ∷ []) whole_trace
       carried_whole =
-          then_passed _ 2 _ _ _ _ (stocks.reserve_fits taken.stocks acts tables.stocks (runs Role.Stock) id customer lines (new.fresh Role.Stock) formed known (new.few Role.Stock)) reserved
-          (then_passed _ 4 _ _ _ _ (orders.invoice_fits taken.orders acts tables.orders id customer lines (new.fresh Role.Order) formed (new.few Role.Order)) (orders.invoice_made taken.orders acts tables.orders id customer lines (new.fresh Role.Order) formed (new.few Role.Order))
-          (then_passed _ 6 _ _ _ _ (sellers.seller_invoice_fits taken.sellers acts tables.sellers id customer lines (new.fresh Role.Seller) new_checkout formed (new.few Role.Seller)) (sellers.seller_invoice_made taken.sellers acts tables.sellers id customer lines (new.fresh Role.Seller) new_checkout formed (new.few Role.Seller))
-          (then_passed _ 5 _ _ _ _ (payments.invoice_fits taken.payments acts tables.payments id customer lines (new.fresh Role.Payment) formed (new.few Role.Payment)) confirmed
-          (then_passed _ 8 _ _ _ _ (stocks.stock_payment_fits taken.stocks acts tables.stocks (runs Role.Stock) id customer lines (new.fresh Role.Stock) formed known (new.few Role.Stock) reserved) (stocks.stock_payment_made taken.stocks acts tables.stocks (runs Role.Stock) id customer lines (new.fresh Role.Stock) formed known (new.few Role.Stock) reserved)
-          (then_passed _ 11 _ _ _ _ (customers.payment_fits taken.customers acts tables.customers id customer lines (new.fresh Role.Customer) formed (new.few Role.Customer)) (customers.payment_made taken.customers acts tables.customers id customer lines (new.fresh Role.Customer) formed (new.few Role.Customer))
-          (then_passed _ 12 _ _ _ _ (sellers.seller_payment_fits taken.sellers acts tables.sellers id customer lines (new.fresh Role.Seller) new_checkout formed (new.few Role.Seller)) (sellers.seller_payment_made taken.sellers acts tables.sellers id customer lines (new.fresh Role.Seller) new_checkout formed (new.few Role.Seller))
-          (then_passed _ 9 _ _ _ _ (orders.paid_fits taken.orders acts tables.orders id customer lines (new.fresh Role.Order) formed (new.few Role.Order)) (orders.paid_made taken.orders acts tables.orders id customer lines (new.fresh Role.Order) formed (new.few Role.Order))
-          (then_passed _ 10 _ _ _ _ (shipments.shipment_fits taken.shipments acts tables.shipments (runs Role.Shipment) id customer lines (new.fresh Role.Shipment) formed (new.few Role.Shipment)) (shipments.shipment_made taken.shipments acts tables.shipments (runs Role.Shipment) id customer lines (new.fresh Role.Shipment) formed (new.few Role.Shipment))
-          (then_passed _ 14 _ _ _ _ (sellers.seller_shipment_fits taken.sellers acts tables.sellers id customer lines (new.fresh Role.Seller) new_checkout formed (new.few Role.Seller)) (sellers.seller_shipment_made taken.sellers acts tables.sellers id customer lines (new.fresh Role.Seller) new_checkout formed (new.few Role.Seller))
-          (then_passed _ 13 _ _ _ _ (orders.shipped_fits taken.orders acts tables.orders id customer lines (new.fresh Role.Order) formed (new.few Role.Order)) (orders.shipped_made taken.orders acts tables.orders id customer lines (new.fresh Role.Order) formed (new.few Role.Order))
-          (then_passed _ 7 _ _ _ _ (ended_fits taken.carts acts tables.carts (link_asked r) id customer lines (new.fresh Role.Cart) (new.few Role.Cart) sent (ending.Whole (total_of lines)) total_formed) (ended_made taken.carts acts tables.carts (link_asked r) id customer lines (new.fresh Role.Cart) (new.few Role.Cart) sent (ending.Whole (total_of lines)) total_formed)
+          then_passed _ CART_TO_STOCK _ _ _ _ (stocks.reserve_fits taken.stocks acts tables.stocks (runs Role.Stock) id customer lines (new.fresh Role.Stock) formed known (new.few Role.Stock)) reserved
+          (then_passed _ STOCK_TO_ORDER _ _ _ _ (orders.invoice_fits taken.orders acts tables.orders id customer lines (new.fresh Role.Order) formed (new.few Role.Order)) (orders.invoice_made taken.orders acts tables.orders id customer lines (new.fresh Role.Order) formed (new.few Role.Order))
+          (then_passed _ ORDER_TO_SELLER _ _ _ _ (sellers.seller_invoice_fits taken.sellers acts tables.sellers id customer lines (new.fresh Role.Seller) new_checkout formed (new.few Role.Seller)) (sellers.seller_invoice_made taken.sellers acts tables.sellers id customer lines (new.fresh Role.Seller) new_checkout formed (new.few Role.Seller))
+          (then_passed _ ORDER_TO_PAYMENT _ _ _ _ (payments.invoice_fits taken.payments acts tables.payments id customer lines (new.fresh Role.Payment) formed (new.few Role.Payment)) confirmed
+          (then_passed _ PAYMENT_TO_STOCK _ _ _ _ (stocks.stock_payment_fits taken.stocks acts tables.stocks (runs Role.Stock) id customer lines (new.fresh Role.Stock) formed known (new.few Role.Stock) reserved) (stocks.stock_payment_made taken.stocks acts tables.stocks (runs Role.Stock) id customer lines (new.fresh Role.Stock) formed known (new.few Role.Stock) reserved)
+          (then_passed _ PAYMENT_TO_CUSTOMER _ _ _ _ (customers.payment_fits taken.customers acts tables.customers id customer lines (new.fresh Role.Customer) formed (new.few Role.Customer)) (customers.payment_made taken.customers acts tables.customers id customer lines (new.fresh Role.Customer) formed (new.few Role.Customer))
+          (then_passed _ PAYMENT_TO_SELLER _ _ _ _ (sellers.seller_payment_fits taken.sellers acts tables.sellers id customer lines (new.fresh Role.Seller) new_checkout formed (new.few Role.Seller)) (sellers.seller_payment_made taken.sellers acts tables.sellers id customer lines (new.fresh Role.Seller) new_checkout formed (new.few Role.Seller))
+          (then_passed _ PAYMENT_TO_ORDER _ _ _ _ (orders.paid_fits taken.orders acts tables.orders id customer lines (new.fresh Role.Order) formed (new.few Role.Order)) (orders.paid_made taken.orders acts tables.orders id customer lines (new.fresh Role.Order) formed (new.few Role.Order))
+          (then_passed _ PAYMENT_TO_SHIPMENT _ _ _ _ (shipments.shipment_fits taken.shipments acts tables.shipments (runs Role.Shipment) id customer lines (new.fresh Role.Shipment) formed (new.few Role.Shipment)) (shipments.shipment_made taken.shipments acts tables.shipments (runs Role.Shipment) id customer lines (new.fresh Role.Shipment) formed (new.few Role.Shipment))
+          (then_passed _ SHIPMENT_TO_SELLER _ _ _ _ (sellers.seller_shipment_fits taken.sellers acts tables.sellers id customer lines (new.fresh Role.Seller) new_checkout formed (new.few Role.Seller)) (sellers.seller_shipment_made taken.sellers acts tables.sellers id customer lines (new.fresh Role.Seller) new_checkout formed (new.few Role.Seller))
+          (then_passed _ SHIPMENT_TO_ORDER _ _ _ _ (orders.shipped_fits taken.orders acts tables.orders id customer lines (new.fresh Role.Order) formed (new.few Role.Order)) (orders.shipped_made taken.orders acts tables.orders id customer lines (new.fresh Role.Order) formed (new.few Role.Order))
+          (then_passed _ ORDER_TO_CART _ _ _ _ (ended_fits taken.carts acts tables.carts (link_asked r) id customer lines (new.fresh Role.Cart) (new.few Role.Cart) sent (ending.Whole (total_of lines)) total_formed) (ended_made taken.carts acts tables.carts (link_asked r) id customer lines (new.fresh Role.Cart) (new.few Role.Cart) sent (ending.Whole (total_of lines)) total_formed)
           (then_told _ cart_node id (reply.Whole (total_of lines))))))))))))))
 
       pub ends_whole : Ends taken r (reply.Whole (total_of lines)) (with_checkout acts checkout Verdict.Whole)

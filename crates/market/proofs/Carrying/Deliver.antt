@@ -5,8 +5,7 @@ use Rattle.market_amounts.specs.declared.keys.RequestId.{RequestId}
 use Rattle.market_events.specs.declared.bodies.Body.{Body}
 use Rattle.market_events.specs.declared.bodies.Body.TheVariants as body
 use Rattle.market_events.specs.declared.bodies.Item.{Item}
-use Rattle.market_events.specs.declared.links.TheConstants.{SHIPMENT_TO_ORDER, SHIPMENT_TO_SELLER}
-use Rattle.market_events.specs.declared.links.TheConstants.{SHIPMENT_TO_CUSTOMER}
+use Rattle.market_events.specs.declared.links.TheConstants.{SHIPMENT_TO_ORDER, SHIPMENT_TO_SELLER, SHIPMENT_TO_CUSTOMER}
 use Rattle.market_events.specs.declared.replies.Reply.{Reply}
 use Rattle.market_events.specs.declared.replies.Reply.TheVariants as reply
 use Rattle.market_events.specs.declared.requests.Ask.TheVariants as ask
@@ -99,9 +98,9 @@ module _ (taken : Taken) (acts : Acts) (runs : AreRuns taken) (tables : HasTable
 
       carried : Traced (with_request taken r) trace trace
       carried =
-          then_passed _ 15 _ _ _ _ (customers.delivery_fits taken.customers acts tables.customers served formed apart (new.few Role.Customer)) (customers.delivery_made taken.customers acts tables.customers served formed apart (new.few Role.Customer))
-          (then_passed _ 14 _ _ _ _ (sellers.seller_delivery_fits taken.sellers acts tables.sellers served formed apart of_whole (new.few Role.Seller)) (sellers.seller_delivery_made taken.sellers acts tables.sellers served formed apart of_whole (new.few Role.Seller))
-          (then_passed _ 13 _ _ _ _ (orders.order_delivery_fits taken.orders acts tables.orders served formed apart of_whole (new.few Role.Order)) (orders.order_delivery_made taken.orders acts tables.orders served formed apart of_whole (new.few Role.Order))
+          then_passed _ SHIPMENT_TO_CUSTOMER _ _ _ _ (customers.delivery_fits taken.customers acts tables.customers served formed apart (new.few Role.Customer)) (customers.delivery_made taken.customers acts tables.customers served formed apart (new.few Role.Customer))
+          (then_passed _ SHIPMENT_TO_SELLER _ _ _ _ (sellers.seller_delivery_fits taken.sellers acts tables.sellers served formed apart of_whole (new.few Role.Seller)) (sellers.seller_delivery_made taken.sellers acts tables.sellers served formed apart of_whole (new.few Role.Seller))
+          (then_passed _ SHIPMENT_TO_ORDER _ _ _ _ (orders.order_delivery_fits taken.orders acts tables.orders served formed apart of_whole (new.few Role.Order)) (orders.order_delivery_made taken.orders acts tables.orders served formed apart of_whole (new.few Role.Order))
           (then_told _ shipment_node id delivered_reply)))
 
       delivers : Ends taken r (reply_among (rows_for acts id ask.Deliver)) after

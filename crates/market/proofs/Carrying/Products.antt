@@ -4,6 +4,7 @@ use Rattle.market_amounts.specs.declared.keys.ProductKey.{ProductKey}
 use Rattle.market_amounts.specs.declared.keys.RequestId.{RequestId}
 use Rattle.market_events.specs.declared.bodies.Body.TheVariants as body
 use Rattle.market_events.specs.declared.changes.Change.TheVariants as change
+use Rattle.market_events.specs.declared.links.TheConstants.{PRODUCT_TO_CART, PRODUCT_TO_STOCK}
 use Rattle.market_events.specs.declared.requests.Ask.{Ask}
 use Rattle.market_events.specs.declared.requests.Ask.TheVariants as ask
 use Rattle.market_events.specs.declared.requests.Request.{Request}
@@ -66,8 +67,8 @@ module _ (taken : Taken) (acts : Acts) (runs : AreRuns taken) (tables : HasTable
       trace = changed id shape.key shape.version shape.made shape.reply;
       carried = subst (λ made. IsTrace (with_request taken r) made (changed id shape.key shape.version shape.made shape.reply)) (sym (made ∙ shape.rows_are))
           (subst (λ t. Traced t (changed id shape.key shape.version shape.made shape.reply) (changed id shape.key shape.version shape.made shape.reply)) (sym taken_there)
-          (then_passed _ 1 _ _ _ _ (stocks.stock_change_fits taken.stocks acts tables.stocks shape.key shape.version shape.made change_formed shape.fit (new.few Role.Stock)) (stocks.stock_change_made taken.stocks acts tables.stocks shape.key shape.version shape.made change_formed shape.fit (new.few Role.Stock))
-          (then_passed _ 0 _ _ _ _ (carts.cart_change_fits taken.carts acts tables.carts shape.key shape.version shape.made change_formed shape.fit (new.few Role.Cart)) (carts.cart_change_made taken.carts acts tables.carts shape.key shape.version shape.made change_formed shape.fit (new.few Role.Cart))
+          (then_passed _ PRODUCT_TO_STOCK _ _ _ _ (stocks.stock_change_fits taken.stocks acts tables.stocks shape.key shape.version shape.made change_formed shape.fit (new.few Role.Stock)) (stocks.stock_change_made taken.stocks acts tables.stocks shape.key shape.version shape.made change_formed shape.fit (new.few Role.Stock))
+          (then_passed _ PRODUCT_TO_CART _ _ _ _ (carts.cart_change_fits taken.carts acts tables.carts shape.key shape.version shape.made change_formed shape.fit (new.few Role.Cart)) (carts.cart_change_made taken.carts acts tables.carts shape.key shape.version shape.made change_formed shape.fit (new.few Role.Cart))
           (then_told _ product_node id shape.reply)))).is;
       replied = ap (λ reply. reply ∷ []) (sym (ap reply_among shape.rows_are));
       tables = subst (λ t. HasTables (all_passed t (changed id shape.key shape.version shape.made shape.reply)) after) (sym taken_there) (record {

@@ -20,9 +20,9 @@ pub record Traced (taken : Taken) (waiting trace : List Sending) : Type 0 where
   pub is : IsTrace taken waiting trace
 
 -- a body is carried to its service, and what that makes of it goes behind the others
-pub then_passed : (taken : Taken) (n : ℕ) (b : Body) (more made trace : List Sending) → CanPass taken (Service n, b) → made_of taken (Service n, b) ≡ made → Traced (passed taken (Service n, b)) (more ++ made) trace
-    → Traced taken ((Service n, b) ∷ more) ((Service n, b) ∷ trace)
-then_passed taken n b more made trace can is rest = record { is = (refl, can, subst (λ m. IsTrace (passed taken (Service n, b)) (more ++ m) trace) (sym is) rest.is) }
+pub then_passed : (taken : Taken) (link : Link) (b : Body) (more made trace : List Sending) → CanPass taken (link, b) → made_of taken (link, b) ≡ made → Traced (passed taken (link, b)) (more ++ made) trace
+    → Traced taken ((link, b) ∷ more) ((link, b) ∷ trace)
+then_passed taken link b more made trace can is rest = record { is = (refl, can, subst (λ m. IsTrace (passed taken (link, b)) (more ++ m) trace) (sym is) rest.is) }
 
 -- a reply is the last
 pub then_told : (taken : Taken) (service : ℕ) (id : RequestId) (reply : Reply) → Traced taken (told service id reply ∷ []) (told service id reply ∷ [])

@@ -8,6 +8,7 @@ use Rattle.market_events.specs.declared.requests.Ask.{Ask}
 use Rattle.market_events.specs.declared.requests.Ask.TheVariants as ask
 use Rattle.market_events.specs.Carts.{changes_taken}
 use Rattle.market_events.specs.Copies.{last_some}
+use Rattle.market_events.specs.Links.{cart_node, product_node, stock_node}
 use Rattle.market_events.specs.Payments.{limit_asked, limit_in}
 use Rattle.market_events.specs.Products.{change_in, changes_made}
 use Rattle.market_events.specs.declared.roles.Role.{Role}
@@ -23,23 +24,23 @@ use Rattle.market_laws.proofs.Views.Gathered.{last-gathered}
 use Rattle.market_laws.proofs.Runs.Products.{changes-0}
 use Rattle.market_laws.proofs.Settled.Links.{ComesOn}
 
--- changes come on link 0 into the cart, and on link 1 into stock
-pub changes-cart : ComesOn 0 0 (λ b. is_some (change_in b))
+-- changes come into the cart and into stock from products
+pub changes-cart : ComesOn cart_node 0 (λ b. is_some (change_in b))
 changes-cart (body.Changed key version change) passes = (tt, refl)
 changes-cart other passes = cc
 
-pub changes-stock : ComesOn 2 1 (λ b. is_some (change_in b))
+pub changes-stock : ComesOn stock_node 1 (λ b. is_some (change_in b))
 changes-stock (body.Changed key version change) passes = (tt, refl)
 changes-stock other passes = cc
 
 module _ (h : Histories) (lawful : IsLawful h) (settled : IsSettled h) where
   pub cart-changes : changes_taken (service_steps h Role.Cart) ≡ changes_made (service_steps h Role.Product)
   cart-changes =
-      gathered-made h lawful settled 0 1 0 (omega arith) (omega arith) (omega arith) refl refl change_in changes-cart
-      ∙ ap (filter_map change_in) (changes-0 (service_steps h Role.Product) (steps-run 1 (journal_at h 1)))
+      gathered-made h lawful settled cart_node product_node 0 (omega arith) (omega arith) (omega arith) refl refl change_in changes-cart
+      ∙ ap (filter_map change_in) (changes-0 (service_steps h Role.Product) (steps-run product_node (journal_at h product_node)))
 
   pub stock-changes : changes_taken (service_steps h Role.Stock) ≡ changes_made (service_steps h Role.Product)
-  stock-changes = gathered-made h lawful settled 2 1 1 (omega arith) (omega arith) (omega arith) refl refl change_in changes-stock
+  stock-changes = gathered-made h lawful settled stock_node product_node 1 (omega arith) (omega arith) (omega arith) refl refl change_in changes-stock
 
 -- a card sets the limit of its customer
 pub limits-book : (customer : ℕ) (bs : List Body) → last_some (limit_in customer) bs ≡ limit_by (filter_map card_act bs) customer

@@ -9,6 +9,7 @@ use Rattle.market_events.specs.declared.bodies.PricedLine.{PricedLine}
 use Rattle.market_events.specs.declared.links.TheConstants.{STOCK_TO_ORDER}
 use Rattle.market_events.specs.declared.replies.EntryRow.{EntryRow}
 use Rattle.market_events.specs.declared.replies.OrderStatus.TheVariants as status
+use Rattle.market_events.specs.Links.{seller_node}
 use Rattle.market_events.specs.Orders.{is_item_of, is_of, is_taken, items_taken, ships}
 use Rattle.market_events.specs.Sellers.{SellerChange, entries_at, in_progress_at, marked, row_by, seller_changes, status_at}
 use Rattle.market_events.specs.declared.roles.Role.{Role}
@@ -130,7 +131,7 @@ module _ (h : Histories) (lawful : IsLawful h) (settled : IsSettled h) (seller :
   unfolding row_due
   progress-book =
       gathered-members (λ (e : SellerChange). row_by e (status_at (seller_changes steps seller) e)) row_due (entries_at (seller_changes steps seller))
-      (λ e here. ap (row_by e) (entry-due steps (steps-run 7 (journal_at h 7)) seller e here))
+      (λ e here. ap (row_by e) (entry-due steps (steps-run seller_node (journal_at h seller_node)) seller e here))
       ∙ ap (filter_map row_due) (entries-invoiced seller [] (taken_bodies steps) ∙ entries-joined seller (taken_bodies steps) ∙ ap (flat_map (entries_for seller)) (sellers-held h lawful settled))
       ∙ gathered-joined row_due (entries_for seller) (held h)
       ∙ joined-members (λ (r : Reservation). filter_map row_due (entries_for seller r)) (λ (r : Reservation). if was_paid h r then rows_under_way items seller r else []) (held h) rows

@@ -7,6 +7,7 @@ use Rattle.market_events.specs.declared.bodies.Item.{Item}
 use Rattle.market_events.specs.declared.links.TheConstants.{STOCK_TO_ORDER, SHIPMENT_TO_ORDER}
 use Rattle.market_events.specs.declared.replies.OrderStatus.{OrderStatus}
 use Rattle.market_events.specs.declared.replies.OrderStatus.TheVariants as status
+use Rattle.market_events.specs.Links.{order_node, shipment_node}
 use Rattle.market_events.specs.Orders.{checkouts_taken, is_nil, is_of, is_left, is_taken, items_in, items_taken, lines_left, open_lines, order_status, order_total, ships}
 use Rattle.market_events.specs.declared.roles.Role.{Role}
 use Rattle.market_events.specs.Shipments.{items_made}
@@ -32,8 +33,8 @@ use Rattle.market_laws.proofs.Settled.Links.{ComesOn}
 use Rattle.market_laws.proofs.Settled.Outcomes.{held, settling, was_paid, orders-held, settled-few}
 use Rattle.market_laws.proofs.Settled.Sellers.{no_items}
 
--- deliveries come into orders on link 13
-delivery-orders : ComesOn 3 13 is_delivery
+-- deliveries come into orders from shipments
+delivery-orders : ComesOn order_node 13 is_delivery
 delivery-orders (body.Delivered items) passes = (tt, refl)
 delivery-orders other passes = cc
 
@@ -73,9 +74,9 @@ module _ (h : Histories) (lawful : IsLawful h) (settled : IsSettled h) (id : Req
 
   order_items : items_taken orders ≡ items
   order_items =
-      lists-made h lawful settled 3 5 13 (omega arith) (omega arith) (omega arith) refl refl items_in is_delivery no_items delivery-orders
+      lists-made h lawful settled order_node shipment_node 13 (omega arith) (omega arith) (omega arith) refl refl items_in is_delivery no_items delivery-orders
       ∙ joined-passing is_delivery items_in no_items (made_on SHIPMENT_TO_ORDER (service_steps h Role.Shipment))
-      ∙ ap (flat_map items_in) (sym (deliveries-15 (service_steps h Role.Shipment) (steps-run 5 (journal_at h 5))))
+      ∙ ap (flat_map items_in) (sym (deliveries-15 (service_steps h Role.Shipment) (steps-run shipment_node (journal_at h shipment_node))))
 
   -- the checkout has a reservation, and was paid
   abbrev has : Bool

@@ -8,6 +8,7 @@ use Rattle.market_events.specs.declared.bodies.Body.{Body}
 use Rattle.market_events.specs.declared.bodies.Body.TheVariants as body
 use Rattle.market_events.specs.declared.bodies.Item.{Item}
 use Rattle.market_events.specs.declared.bodies.PricedLine.{PricedLine}
+use Rattle.market_events.specs.Links.{payment_node, shipment_node, seller_node}
 use Rattle.market_events.specs.Orders.{is_of, items_in}
 use Rattle.market_events.specs.Sellers.{invoice_lines, seller_changes}
 use Rattle.market_events.specs.declared.roles.Role.{Role}
@@ -38,19 +39,19 @@ use Rattle.market_laws.proofs.Settled.Outcomes.{held, settling, was_paid, seller
 use Rattle.market_laws.proofs.Settled.Sellers.{seller-items}
 
 -- where these bodies come in
-paid-sellers : ComesOn 7 12 (λ b. is_some (paid_in b))
+paid-sellers : ComesOn seller_node 12 (λ b. is_some (paid_in b))
 paid-sellers (body.Confirmed checkout customer lines total) passes = (tt, refl)
 paid-sellers other passes = cc
 
-failed-sellers : ComesOn 7 12 (λ b. is_some (failed_in b))
+failed-sellers : ComesOn seller_node 12 (λ b. is_some (failed_in b))
 failed-sellers (body.Failed checkout customer rule) passes = (tt, refl)
 failed-sellers other passes = cc
 
-shipped-sellers : ComesOn 7 14 (λ b. is_some (shipped_in b))
+shipped-sellers : ComesOn seller_node 14 (λ b. is_some (shipped_in b))
 shipped-sellers (body.Shipped checkout) passes = (tt, refl)
 shipped-sellers other passes = cc
 
-payment-shipments : ComesOn 5 10 (λ b. is_some (paid_id b))
+payment-shipments : ComesOn shipment_node 10 (λ b. is_some (paid_id b))
 payment-shipments (body.Confirmed checkout customer lines total) passes = (tt, refl)
 payment-shipments other passes = cc
 
@@ -151,21 +152,21 @@ module _ (h : Histories) (lawful : IsLawful h) (settled : IsSettled h) (seller :
 
   sellers-paid : filter_map paid_in bodies ≡ filter (was_paid h) (held h)
   sellers-paid =
-      gathered-made h lawful settled 7 4 12 (omega arith) (omega arith) (omega arith) refl refl paid_in paid-sellers
-      ∙ ap (filter_map paid_in) (sym (payments-12 (service_steps h Role.Payment) (steps-run 4 (journal_at h 4)))) ∙ paid-held h lawful settled
+      gathered-made h lawful settled seller_node payment_node 12 (omega arith) (omega arith) (omega arith) refl refl paid_in paid-sellers
+      ∙ ap (filter_map paid_in) (sym (payments-12 (service_steps h Role.Payment) (steps-run payment_node (journal_at h payment_node)))) ∙ paid-held h lawful settled
 
   sellers-failed : filter_map failed_in bodies ≡ filter_map failed_in (settling h)
   sellers-failed =
-      gathered-made h lawful settled 7 4 12 (omega arith) (omega arith) (omega arith) refl refl failed_in failed-sellers
-      ∙ ap (filter_map failed_in) (sym (payments-12 (service_steps h Role.Payment) (steps-run 4 (journal_at h 4))))
+      gathered-made h lawful settled seller_node payment_node 12 (omega arith) (omega arith) (omega arith) refl refl failed_in failed-sellers
+      ∙ ap (filter_map failed_in) (sym (payments-12 (service_steps h Role.Payment) (steps-run payment_node (journal_at h payment_node))))
 
   sellers-shipped : filter_map shipped_in bodies ≡ filter_map paid_id (settling h)
   sellers-shipped =
-      gathered-made h lawful settled 7 5 14 (omega arith) (omega arith) (omega arith) refl refl shipped_in shipped-sellers
-      ∙ ap (filter_map shipped_in) (sym (shipments-14 (service_steps h Role.Shipment) (steps-run 5 (journal_at h 5))))
-      ∙ ships-paid (service_steps h Role.Shipment) (steps-run 5 (journal_at h 5))
-      ∙ gathered-made h lawful settled 5 4 10 (omega arith) (omega arith) (omega arith) refl refl paid_id payment-shipments
-      ∙ ap (filter_map paid_id) (payments-10 (service_steps h Role.Payment) (steps-run 4 (journal_at h 4)) ∙ (λ i. filter (λ b. payment-is b i) (settling h)))
+      gathered-made h lawful settled seller_node shipment_node 14 (omega arith) (omega arith) (omega arith) refl refl shipped_in shipped-sellers
+      ∙ ap (filter_map shipped_in) (sym (shipments-14 (service_steps h Role.Shipment) (steps-run shipment_node (journal_at h shipment_node))))
+      ∙ ships-paid (service_steps h Role.Shipment) (steps-run shipment_node (journal_at h shipment_node))
+      ∙ gathered-made h lawful settled shipment_node payment_node 10 (omega arith) (omega arith) (omega arith) refl refl paid_id payment-shipments
+      ∙ ap (filter_map paid_id) (payments-10 (service_steps h Role.Payment) (steps-run payment_node (journal_at h payment_node)) ∙ (λ i. filter (λ b. payment-is b i) (settling h)))
       ∙ gathered-kept paid_id (settling h)
 
   pub point-book : length (seller_changes (service_steps h Role.Seller) seller)
@@ -175,7 +176,7 @@ module _ (h : Histories) (lawful : IsLawful h) (settled : IsSettled h) (seller :
       let lines_at = invoice_lines bodies in
       let s = settled-held h lawful settled in
       let p = paid-picks h lawful settled in
-      let one = point-weighed seller (service_steps h Role.Seller) (steps-run 7 (journal_at h 7)) in
+      let one = point-weighed seller (service_steps h Role.Seller) (steps-run seller_node (journal_at h seller_node)) in
       let all = all-weighed seller lines_at bodies in
       let invoiced = ap (line_count seller) (sellers-held h lawful settled) in
       let parts = sum-parts (was_paid h) (λ (r : Reservation). own_lines seller r.lines) (held h) in

@@ -14,10 +14,11 @@ use Rattle.market_events.specs.declared.events.What.TheVariants.{Taken}
 use Rattle.market_events.specs.declared.links.Link.{Link}
 use Rattle.market_events.specs.declared.links.Link.TheVariants.{Service, Asked, Told}
 use Rattle.market_events.specs.Carried.{carries, service_carries, asked_of, told_by}
-use Rattle.market_events.specs.Links.{IsLink, sender_of}
+use Rattle.market_events.specs.Links.{IsLink, same_link, sender_of}
 use Rattle.market_events.specs.Services.{IsRunOf, role_fits, answers, reactions}
 use Rattle.market_events.specs.Steps.{Step, Sending, made_on}
 use Rattle.market_events.proofs.Values.Lists.{and_both}
+use Rattle.market_events.proofs.Values.Offers.{same_link-true}
 use Rattle.market_events.proofs.Steps.Taken.{fits-parts}
 use Rattle.market_history.specs.Blocks.{Part, part_of, parts_of, input_in, inputs_of, Arrival, what_of, input_of, with_what, made_out, role_at, services, grow}
 use Rattle.market_history.specs.Histories.{Histories, journal_at}
@@ -54,20 +55,20 @@ pub due-here : (h : Histories) → IsLawful h → (n : ℕ) → n < services →
 due-here h lawful n lt event t = (fits-parts (role_at n) (steps_at n t.before) event.link event.body (fits-here h lawful n lt event t)).due
 
 -- where one body at most that a service's run makes on a link passes, one at most that it made does
-pub made-few : (h : Histories) → IsLawful h → (n : ℕ) → n < services → (k : ℕ) (test : Body → Bool) → ((steps : List Step) → IsRunOf (role_at n) steps → count_by test (made_on (Service k) steps) ≤ 1)
-    → count_by test (bodies_on (Service k) (journal_at h n)) ≤ 1
-made-few h lawful n lt k test few =
-    subst (λ l. count_by test l ≤ 1) (sym (whole h lawful n lt (Service k))) (few (steps_at n (journal_at h n)) (steps-run n (journal_at h n)))
+pub made-few : (h : Histories) → IsLawful h → (n : ℕ) → n < services → (link : Link) (test : Body → Bool) → ((steps : List Step) → IsRunOf (role_at n) steps → count_by test (made_on link steps) ≤ 1)
+    → count_by test (bodies_on link (journal_at h n)) ≤ 1
+made-few h lawful n lt link test few =
+    subst (λ l. count_by test l ≤ 1) (sym (whole h lawful n lt link)) (few (steps_at n (journal_at h n)) (steps-run n (journal_at h n)))
 
 -- what passes a test is not among what does not
 pub not-among : (test : Body → Bool) (rows : List Sending) (x : Sending) → list_any (λ (s : Sending). test s.1) rows ≡ false → Member x rows → test x.1 ≡ true → ⊥
 not-among test rows x none here passes = let any = any_of_member (λ (s : Sending). test s.1) x rows here passes in cc
 
 -- what goes on each of some links is one body
-pub same-body : (links : List ℕ) (b : Body) (x : Sending) → Member x (on_each links b) → x.1 ≡ b
+pub same-body : (links : List Link) (b : Body) (x : Sending) → Member x (on_each links b) → x.1 ≡ b
 same-body [] b x here = absurd here
-same-body (k ∷ ks) b x (inl same) = ap (λ (s : Sending). s.1) same
-same-body (k ∷ ks) b x (inr later) = same-body ks b x later
+same-body (link ∷ others) b x (inl same) = ap (λ (s : Sending). s.1) same
+same-body (link ∷ others) b x (inr later) = same-body others b x later
 
 -- a journal from a place where an event was taken: the block of it, and the blocks after
 record Rest (n : ℕ) (j before : List Entry) (x : Entry) (event : Event) : Type 0 where
@@ -185,8 +186,8 @@ module _ (h : Histories) (n : ℕ) (made : Event) (m : MadeAt h n made) (c : Cau
   caused-by link b on is = record { event = c.event; took = c.took; on = on; body_is = is; between = c.within.after; is = c.within.is; same_block = same-block }
 
 -- the links on which a body can be made, all of them by this node
-abbrev pub goes_from : ℕ → List ℕ → Body → ℕ → Bool
-goes_from node links b k = not (service_carries (Service k) b) || (list_any (λ j. j == k) links && (sender_of (Service k) == node))
+abbrev pub goes_from : ℕ → List Link → Body → ℕ → Bool
+goes_from node links b k = not (service_carries (Service k) b) || (list_any (same_link (Service k)) links && (sender_of (Service k) == node))
 
 -- no lane's link carries the body
 abbrev pub IsBetweenServices : Body → Type 0
@@ -212,22 +213,23 @@ then_holds true b all holds = all
 then_holds false b all holds = cc
 
 -- where a body was made, and by whom
-pub made-by : (h : Histories) → IsLawful h → (n : ℕ) (made : Event) → MadeAt h n made → (b : Body) → made.body ≡ b → IsBetweenServices b → (node : ℕ) (links : List ℕ)
+pub made-by : (h : Histories) → IsLawful h → (n : ℕ) (made : Event) → MadeAt h n made → (b : Body) → made.body ≡ b → IsBetweenServices b → (node : ℕ) (links : List Link)
     → below_all (goes_from node links b) 16 ≡ true → IsOnOneOf links made.link × (node ≡ n)
 made-by h lawful n made m b is plain node links all =
     let as_made = made-as h lawful n made m in
     let at = carried_between b plain made.link as_made.on (subst (λ b. carries made.link b ≡ true) is as_made.carried) in
     let k = at.0 in
     let each = below_all-each (goes_from node links b) 16 all k at.1 in
-    let both = and_both (list_any (λ j. j == k) links) (sender_of (Service k) == node) (then_holds (service_carries (Service k) b) (list_any (λ j. j == k) links && (sender_of (Service k) == node)) each at.3) in
-    let found = member_of_any (λ j. j == k) links both.0 in
-    let same = eqb-true found.0 k found.2 in
-    ((found.0, found.1, at.2 ∙ ap Service (sym same)), sym (eqb-true (sender_of (Service k)) node both.1) ∙ ap sender_of (sym at.2) ∙ m.leaves)
+    let test = same_link (Service k) in
+    let both = and_both (list_any test links) (sender_of (Service k) == node) (then_holds (service_carries (Service k) b) (list_any test links && (sender_of (Service k) == node)) each at.3) in
+    let found = member_of_any test links both.0 in
+    let same : made.link ≡ found.0 = at.2 ∙ same_link-true (Service k) found.0 found.2 in
+    (subst (λ link. Member link links) (sym same) found.1, sym (eqb-true (sender_of (Service k)) node both.1) ∙ ap sender_of (sym at.2) ∙ m.leaves)
 
 -- the one link
-pub only-link : (k : ℕ) (link : Link) → IsOnOneOf (k ∷ []) link → link ≡ Service k
-only-link k link (j, inl same, is) = is ∙ ap Service same
-only-link k link (j, inr never, is) = absurd never
+pub only-link : (only link : Link) → IsOnOneOf (only ∷ []) link → link ≡ only
+only-link only link (inl same) = same
+only-link only link (inr never) = absurd never
 
 -- what was taken before stands among what was taken on its link
 pub has-taken : (h : Histories) (s : ℕ) (event : Event) (lawful : IsLawful h) (t : TookAt h s event) (b : Body) → TookBefore h s t.clock b → s < services → IsNoRequest b → (k : ℕ) → below_all (comes_on s k b) 16 ≡ true

@@ -1,4 +1,4 @@
--- How deliveries are made: on links 15, 14 and 13, each line once, in the block of a request to deliver that shipments take
+-- How deliveries are made: to customers, sellers and orders, each line once, in the block of a request to deliver that shipments take
 -- after the payment; orders and sellers took the shipment before.
 use Rattle.std.proofs.Common.{◌≡◌, ℕ, ◌<◌, ◌≤◌, ◌&&◌, true, length, List, [], ◌∷◌, ◌++◌, ◌⊎◌, count_by, inl, inr, refl, ap, sym, ◌∙◌, subst, arith}
 use Rattle.std.specs.List.{flat_map, list_any, list_all}
@@ -35,12 +35,12 @@ use Rattle.market_history.specs.Checkouts.{bodies_of}
 use Rattle.market_history.specs.Histories.{Histories, journal_at}
 use Rattle.market_history.specs.Lawful.{IsLawful}
 use Rattle.market_history.specs.Sent.{sent}
-use Rattle.market_laws.specs.Causes.{HasTaken, IsOnOneOf, DeliveryIsCaused, MakesJust, on_each, delivery_asked, DeliveriesHaveCauses}
+use Rattle.market_laws.specs.Causes.{HasTaken, IsOnOneOf, DeliveryIsCaused, MakesJust, on_each, delivery_asked, DeliveriesHaveCauses, delivery_links}
 use Rattle.market_laws.specs.Cuts.{steps_at, TookAt, MadeAt}
 use Rattle.market_laws.specs.Runs.{Member, is_delivery, lines_apart, IsPaidFor}
 use Rattle.market_laws.proofs.Causes.Blocks.{due-here, not-among, among-answers, caused-by, makes-these, made-by, has-taken, made-at, took-at}
 use Rattle.market_laws.proofs.Causes.Counts.{apart-few}
-use Rattle.market_laws.proofs.Origins.Causes.{Cause, cause, cause_steps, cause-run, cause-made}
+use Rattle.market_laws.proofs.Origins.Causes.{Cause, cause, cause_steps, cause-run, cause-made-on}
 use Rattle.market_laws.proofs.Origins.Made.{steps-run, whole}
 use Rattle.market_laws.proofs.Origins.Once.{TookBefore, taken-before, taken-before-any}
 use Rattle.market_laws.proofs.Fits.Asked.{asked-for, asked-on}
@@ -62,20 +62,20 @@ delivered_for s (body.Confirmed id buyer ls sum) link items here =
     absurd (not-among is_delivery (shipment_rows s (body.Confirmed id buyer ls sum)) (link, body.Delivered items) refl here refl)
 delivered_for s other link items here = absurd here
 
--- what they deliver on one of the links they deliver on link 13
-on_thirteen : (k : ℕ) → Member k (15 ∷ 14 ∷ 13 ∷ []) → (steps : List Step) → IsRunOf Role.Shipment steps → (b : Body) → Member b (made_on (Service k) steps) → Member b (made_on SHIPMENT_TO_ORDER steps)
-on_thirteen k (inl same) steps run b here =
-    member-filter is_delivery b (made_on SHIPMENT_TO_ORDER steps) (subst (λ l. Member b l) (deliveries-15 steps run) (subst (λ j. Member b (made_on (Service j) steps)) same here))
-on_thirteen k (inr (inl same)) steps run b here = subst (λ l. Member b l) (sym (shipments-14 steps run)) (subst (λ j. Member b (made_on (Service j) steps)) same here)
-on_thirteen k (inr (inr (inl same))) steps run b here = subst (λ j. Member b (made_on (Service j) steps)) same here
-on_thirteen k (inr (inr (inr never))) steps run b here = absurd never
+-- what they deliver on one of the links they deliver to orders
+to_orders : (link : Link) → Member link delivery_links → (steps : List Step) → IsRunOf Role.Shipment steps → (b : Body) → Member b (made_on link steps) → Member b (made_on SHIPMENT_TO_ORDER steps)
+to_orders link (inl same) steps run b here =
+    member-filter is_delivery b (made_on SHIPMENT_TO_ORDER steps) (subst (λ l. Member b l) (deliveries-15 steps run) (subst (λ l. Member b (made_on l steps)) same here))
+to_orders link (inr (inl same)) steps run b here = subst (λ l. Member b l) (sym (shipments-14 steps run)) (subst (λ l. Member b (made_on l steps)) same here)
+to_orders link (inr (inr (inl same))) steps run b here = subst (λ l. Member b (made_on l steps)) same here
+to_orders link (inr (inr (inr never))) steps run b here = absurd never
 
 -- and no item twice on any of them
-apart_on : (k : ℕ) → Member k (15 ∷ 14 ∷ 13 ∷ []) → (steps : List Step) → IsRunOf Role.Shipment steps → lines_apart [] (flat_map items_in (made_on (Service k) steps)) ≡ true
-apart_on k (inl same) steps run = subst (λ j. lines_apart [] (flat_map items_in (made_on (Service j) steps)) ≡ true) (sym same) (items-once steps run)
-apart_on k (inr (inl same)) steps run = subst (λ j. lines_apart [] (flat_map items_in (made_on (Service j) steps)) ≡ true) (sym same) (items_once-14 steps run)
-apart_on k (inr (inr (inl same))) steps run = subst (λ j. lines_apart [] (flat_map items_in (made_on (Service j) steps)) ≡ true) (sym same) (items_once-13 steps run)
-apart_on k (inr (inr (inr never))) steps run = absurd never
+apart_on : (link : Link) → Member link delivery_links → (steps : List Step) → IsRunOf Role.Shipment steps → lines_apart [] (flat_map items_in (made_on link steps)) ≡ true
+apart_on link (inl same) steps run = subst (λ l. lines_apart [] (flat_map items_in (made_on l steps)) ≡ true) (sym same) (items-once steps run)
+apart_on link (inr (inl same)) steps run = subst (λ l. lines_apart [] (flat_map items_in (made_on l steps)) ≡ true) (sym same) (items_once-14 steps run)
+apart_on link (inr (inr (inl same))) steps run = subst (λ l. lines_apart [] (flat_map items_in (made_on l steps)) ≡ true) (sym same) (items_once-13 steps run)
+apart_on link (inr (inr (inr never))) steps run = absurd never
 
 module _ (h : Histories) (lawful : IsLawful h) where
   module _ (made : Event) (m : MadeAt h shipment_node made) (items : List Item) (item : Item) (is : made.body ≡ body.Delivered items) (here : Member item items) where
@@ -90,12 +90,12 @@ module _ (h : Histories) (lawful : IsLawful h) where
         (subst (λ l. Member (made.link, body.Delivered items) l) (answers-shipment steps o.event.link o.event.body) (among-answers h shipment_node made m o (body.Delivered items) is))
 
     -- the payment of the item
-    paid_for : IsOnOneOf (15 ∷ 14 ∷ 13 ∷ []) made.link → IsPaidFor (cause_steps h shipment_node made m o) item
+    paid_for : IsOnOneOf delivery_links made.link → IsPaidFor (cause_steps h shipment_node made m o) item
     paid_for on =
         let steps = cause_steps h shipment_node made m o in
         let run = cause-run h shipment_node made m o in
-        let there = cause-made h shipment_node made m o on.0 on.2 in
-        delivered-paid steps run items (subst (λ b. Member b (made_on SHIPMENT_TO_ORDER steps)) is (on_thirteen on.0 on.1 steps run made.body there)) item here
+        let there = cause-made-on h shipment_node made m o made.link refl in
+        delivered-paid steps run items (subst (λ b. Member b (made_on SHIPMENT_TO_ORDER steps)) is (to_orders made.link on steps run made.body there)) item here
 
     -- it was taken before the request
     paid_then : (b : Body) → (b ≡ o.event.body → ⊥) → Member b (taken_bodies (cause_steps h shipment_node made m o)) → Member b (taken_bodies (steps_at shipment_node o.took.before))
@@ -108,7 +108,7 @@ module _ (h : Histories) (lawful : IsLawful h) where
         by (inr (inl same)) = absurd (differs same)
         by (inr (inr never)) = absurd never
 
-    delivered : IsOnOneOf (15 ∷ 14 ∷ 13 ∷ []) made.link → DeliveryIsCaused h shipment_node made m item
+    delivered : IsOnOneOf delivery_links made.link → DeliveryIsCaused h shipment_node made m item
     delivered on =
         let for = asked_for in
         let paid = paid_for on in
@@ -138,7 +138,7 @@ module _ (h : Histories) (lawful : IsLawful h) where
   abbrev Delivers : (n : ℕ) (event : Event) → TookAt h n event → RequestId → Type 0
   Delivers n event t id =
       ((items : List Item) × (sellers : ℕ)
-      × MakesJust h n event t (on_each (15 ∷ 14 ∷ 13 ∷ []) (body.Delivered items) ++ told shipment_node id (reply.Delivered sellers (length items)) ∷ []))
+      × MakesJust h n event t (on_each delivery_links (body.Delivered items) ++ told shipment_node id (reply.Delivered sellers (length items)) ∷ []))
       ⊎ MakesJust h n event t (told shipment_node id (reply.Delivered 0 0) ∷ [])
 
   makes_delivered : (event : Event) (id : RequestId) → event.body ≡ delivery_asked id → (t : TookAt h shipment_node event) → Delivers shipment_node event t id
@@ -152,7 +152,7 @@ module _ (h : Histories) (lawful : IsLawful h) where
       by (i ∷ more) sellers rows = inl (
         i ∷ more,
         sellers,
-        makes-these h lawful shipment_node (omega arith) event t (on_each (15 ∷ 14 ∷ 13 ∷ []) (body.Delivered (i ∷ more)) ++ told shipment_node id (reply.Delivered sellers (length (i ∷ more))) ∷ []) rows,
+        makes-these h lawful shipment_node (omega arith) event t (on_each delivery_links (body.Delivered (i ∷ more)) ++ told shipment_node id (reply.Delivered sellers (length (i ∷ more))) ∷ []) rows,
       )
 
   -- shipments alone take one
@@ -181,17 +181,17 @@ module _ (h : Histories) (lawful : IsLawful h) where
         let line = is_line_of (invoice_lines (taken_bodies steps) item.checkout) item in
         shipment_before c seller_node event t (omega arith) 14 refl (ap (is_taken ships steps) (sym same) ∙ (and_both (is_taken ships steps item.checkout) line one).0)
 
-    line_once : (key : ProductKey) (k : ℕ) → Member k (15 ∷ 14 ∷ 13 ∷ []) → count_by (is_item_of c key) (flat_map items_in (bodies_of (sent (Service k) (journal_at h shipment_node)))) ≤ 1
-    line_once key k among =
+    line_once : (key : ProductKey) (link : Link) → Member link delivery_links → count_by (is_item_of c key) (flat_map items_in (bodies_of (sent link (journal_at h shipment_node)))) ≤ 1
+    line_once key link among =
         let steps = steps_at shipment_node (journal_at h shipment_node) in
-        subst (λ bs. count_by (is_item_of c key) (flat_map items_in bs) ≤ 1) (sym (whole h lawful shipment_node (omega arith) (Service k)))
-        (apart-few [] (flat_map items_in (made_on (Service k) steps)) c key (apart_on k among steps (steps-run shipment_node (journal_at h shipment_node))))
+        subst (λ bs. count_by (is_item_of c key) (flat_map items_in bs) ≤ 1) (sym (whole h lawful shipment_node (omega arith) link))
+        (apart-few [] (flat_map items_in (made_on link steps)) c key (apart_on link among steps (steps-run shipment_node (journal_at h shipment_node))))
 
     -- how deliveries are made
     pub deliveries-caused : DeliveriesHaveCauses h c
     deliveries-caused = record {
       cause = λ n made m items item is here same.
-          let by = made-by h lawful n made m (body.Delivered items) is tt shipment_node (15 ∷ 14 ∷ 13 ∷ []) refl in
+          let by = made-by h lawful n made m (body.Delivered items) is tt shipment_node delivery_links refl in
           (by.0, made-at h made (λ n m. DeliveryIsCaused h n made m item) shipment_node n by.1 (λ m. delivered made m items item is here by.0) m);
       makes = λ n event t id is. took-at h event (λ n t. Delivers n event t id) shipment_node n (asked_node n event t id is) (makes_delivered event id is) t;
       once = line_once;

@@ -1,4 +1,4 @@
--- How endings are made: on link 7, once, in the block of the Failed or of the Shipped.
+-- How endings are made: from orders to the cart, once, in the block of the Failed or of the Shipped.
 use Rattle.std.proofs.Common.{◌≡◌, ℕ, [], ◌∷◌, refl, ap, sym, ◌∙◌, subst, arith}
 use Rattle.market_amounts.specs.declared.keys.RequestId.{RequestId}
 use Rattle.market_events.specs.declared.bodies.Body.{Body}
@@ -12,12 +12,11 @@ use Rattle.market_events.specs.Links.{receiver_of, order_node}
 use Rattle.market_events.specs.Orders.{OrderSums, order_sums, order_rows, order_asked, order_total}
 use Rattle.market_events.specs.Services.{ends}
 use Rattle.market_events.specs.WellFormed.{total_of}
-use Rattle.market_events.specs.declared.links.TheConstants.{ORDER_TO_CART, PAYMENT_TO_ORDER}
-use Rattle.market_events.specs.declared.links.TheConstants.{SHIPMENT_TO_ORDER}
+use Rattle.market_events.specs.declared.links.TheConstants.{ORDER_TO_CART, PAYMENT_TO_ORDER, SHIPMENT_TO_ORDER}
 use Rattle.market_events.proofs.Runs.Orders.{answers-order}
 use Rattle.market_history.specs.Histories.{Histories}
 use Rattle.market_history.specs.Lawful.{IsLawful}
-use Rattle.market_laws.specs.Causes.{MakesJust, EndingIsCaused, EndingsHaveCauses}
+use Rattle.market_laws.specs.Causes.{MakesJust, EndingIsCaused, EndingsHaveCauses, invoice_links}
 use Rattle.market_laws.specs.Cuts.{steps_at, TookAt, MadeAt}
 use Rattle.market_laws.specs.Runs.{Member}
 use Rattle.market_laws.proofs.Causes.Blocks.{made-few, same-body, makes-these, among-answers, caused-by, made-by, only-link, made-at, took-at}
@@ -46,11 +45,11 @@ ended_for : (s : OrderSums) (b : Body) (link : Link) (c : RequestId) (end : Endi
 ended_for s (body.Asked request) link c end here =
     absurd (told-member (order_asked s request.id request.ask) (link, body.Ended c end) (order-tells s request.id request.ask) here)
 ended_for s (body.StockConfirmed id buyer ls) link c end here =
-    let same : body.Ended c end ≡ body.Invoice id buyer ls (total_of ls) = same-body (6 ∷ 5 ∷ []) (body.Invoice id buyer ls (total_of ls)) (link, body.Ended c end) here in
+    let same : body.Ended c end ≡ body.Invoice id buyer ls (total_of ls) = same-body invoice_links (body.Invoice id buyer ls (total_of ls)) (link, body.Ended c end) here in
     let no : ⊥ = cc in absurd no
 ended_for s (body.Failed id buyer rule) link c end here =
-    ended_undone c id end buyer rule (same-body (7 ∷ []) (body.Ended id (ending.Undone rule)) (link, body.Ended c end) here)
-ended_for s (body.Shipped id) link c end here = ended_whole c id end (s.total id) (same-body (7 ∷ []) (body.Ended id (ending.Whole (s.total id))) (link, body.Ended c end) here)
+    ended_undone c id end buyer rule (same-body (ORDER_TO_CART ∷ []) (body.Ended id (ending.Undone rule)) (link, body.Ended c end) here)
+ended_for s (body.Shipped id) link c end here = ended_whole c id end (s.total id) (same-body (ORDER_TO_CART ∷ []) (body.Ended id (ending.Whole (s.total id))) (link, body.Ended c end) here)
 ended_for s other link c end here = absurd here
 
 module _ (h : Histories) (lawful : IsLawful h) (c : RequestId) where
@@ -84,11 +83,11 @@ module _ (h : Histories) (lawful : IsLawful h) (c : RequestId) where
   pub endings-caused : EndingsHaveCauses h c
   endings-caused = record {
     cause = λ n made m end is.
-        let by = made-by h lawful n made m (body.Ended c end) is tt order_node (7 ∷ []) refl in
-        (only-link 7 made.link by.0, made-at h made (λ n m. EndingIsCaused h n made m c end) order_node n by.1 (λ m. ended made m end is) m);
+        let by = made-by h lawful n made m (body.Ended c end) is tt order_node (ORDER_TO_CART ∷ []) refl in
+        (only-link ORDER_TO_CART made.link by.0, made-at h made (λ n m. EndingIsCaused h n made m c end) order_node n by.1 (λ m. ended made m end is) m);
     failed_makes = λ n event t customer rule on is.
         took-at h event (λ n t. MakesJust h n event t ((ORDER_TO_CART, body.Ended c (ending.Undone rule)) ∷ [])) order_node n (sym (ap receiver_of on) ∙ t.ready.1) (makes_undone event customer rule is) t;
     shipped_makes = λ n event t on is.
         took-at h event (λ n t. (total : ℕ) × MakesJust h n event t ((ORDER_TO_CART, body.Ended c (ending.Whole total)) ∷ [])) order_node n (sym (ap receiver_of on) ∙ t.ready.1) (makes_whole event is) t;
-    once = made-few h lawful order_node (omega arith) 7 (ends c) (λ steps run. ends-once steps run c);
+    once = made-few h lawful order_node (omega arith) ORDER_TO_CART (ends c) (λ steps run. ends-once steps run c);
   }

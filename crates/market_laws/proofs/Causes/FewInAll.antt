@@ -10,7 +10,7 @@ use Rattle.market_events.specs.declared.lanes.TheConstants.{LANES}
 use Rattle.market_events.specs.declared.links.Link.{Link}
 use Rattle.market_events.specs.declared.links.Link.TheVariants.{Asked, Told}
 use Rattle.market_events.specs.Carried.{carries}
-use Rattle.market_events.specs.Links.{cart_node, lane_node, service_by_ask}
+use Rattle.market_events.specs.Links.{cart_node, lane_node, service_by_ask, product_node, stock_node, order_node, payment_node, shipment_node, customer_node, seller_node}
 use Rattle.market_events.specs.Requests.{lane_of}
 use Rattle.market_events.specs.Services.{asks}
 use Rattle.market_events.specs.declared.links.TheConstants.{PRODUCT_TO_CART, PRODUCT_TO_STOCK, CART_TO_STOCK}
@@ -72,8 +72,8 @@ one_lane =
 
 -- the links of a lane, and those between services
 lane_parts : (f : Link → ℕ) (lane : ℕ) → total f (lane_links lane)
-    ≡ f (Asked lane 0) + (f (Asked lane 1) + (f (Asked lane 2) + (f (Asked lane 3) + (f (Asked lane 4) + (f (Asked lane 5) + (f (Asked lane 6) + (f (Asked lane 7)
-    + (f (Told 0 lane) + (f (Told 1 lane) + (f (Told 2 lane) + (f (Told 3 lane) + (f (Told 4 lane) + (f (Told 5 lane) + (f (Told 6 lane) + (f (Told 7 lane) + 0)))))))))))))))
+    ≡ f (Asked lane cart_node) + (f (Asked lane product_node) + (f (Asked lane stock_node) + (f (Asked lane order_node) + (f (Asked lane payment_node) + (f (Asked lane shipment_node) + (f (Asked lane customer_node) + (f (Asked lane seller_node)
+    + (f (Told cart_node lane) + (f (Told product_node lane) + (f (Told stock_node lane) + (f (Told order_node lane) + (f (Told payment_node lane) + (f (Told shipment_node lane) + (f (Told customer_node lane) + (f (Told seller_node lane) + 0)))))))))))))))
 unfolding total
 lane_parts f lane = refl
 
@@ -161,11 +161,11 @@ module _ (h : Histories) (lawful : IsLawful h) (c : RequestId) (kept : is_kept_c
           let cart : s ≡ cart_node = cc in
           absurd (differs at cart)
 
-  told_one : (lane : ℕ) → lane ≡ lane_of c → made_for h c (Told 0 lane) ≤ 1
+  told_one : (lane : ℕ) → lane ≡ lane_of c → made_for h c (Told cart_node lane) ≤ 1
   told_one lane at =
-      subst (λ i. made_for h c (Told 0 i) ≤ 1) (sym at)
-      (let bs = bodies_on (Told 0 (lane_of c)) (journal_at h 0) in
-      omega (arith, count-members (names c) (tells c) bs (λ b here named. (told_from 0 (lane_of c) (omega arith) b here named).1), (tellings-caused h lawful c kept).once))
+      subst (λ i. made_for h c (Told cart_node i) ≤ 1) (sym at)
+      (let bs = bodies_on (Told cart_node (lane_of c)) (journal_at h cart_node) in
+      omega (arith, count-members (names c) (tells c) bs (λ b here named. (told_from cart_node (lane_of c) (omega arith) b here named).1), (tellings-caused h lawful c kept).once))
 
   -- the links of a lane
   lane_few : (lane : ℕ) → lane < 16 → total (made_for h c) (lane_links lane) ≤ cond (lane == lane_of c) 2 0
@@ -174,32 +174,32 @@ module _ (h : Histories) (lawful : IsLawful h) (c : RequestId) (kept : is_kept_c
       let parts = lane_parts f lane in
       let asked : (s : ℕ) → 1 ≤ s → f (Asked lane s) ≤ 0 = (λ s low. asked_none lane s lt (λ at cart. omega arith)) in
       let told : (s : ℕ) → 1 ≤ s → s < 8 → f (Told s lane) ≤ 0 = (λ s low small. told_none s lane small (λ at cart. omega arith)) in
-      let rest : total f (lane_links lane) ≤ f (Asked lane 0) + f (Told 0 lane) =
+      let rest : total f (lane_links lane) ≤ f (Asked lane cart_node) + f (Told cart_node lane) =
       omega (
         arith,
         parts,
-        asked 1 (omega arith),
-        asked 2 (omega arith),
-        asked 3 (omega arith),
-        asked 4 (omega arith),
-        asked 5 (omega arith),
-        asked 6 (omega arith),
-        asked 7 (omega arith),
-        told 1 (omega arith) (omega arith),
-        told 2 (omega arith) (omega arith),
-        told 3 (omega arith) (omega arith),
-        told 4 (omega arith) (omega arith),
-        told 5 (omega arith) (omega arith),
-        told 6 (omega arith) (omega arith),
-        told 7 (omega arith) (omega arith),
+        asked product_node (omega arith),
+        asked stock_node (omega arith),
+        asked order_node (omega arith),
+        asked payment_node (omega arith),
+        asked shipment_node (omega arith),
+        asked customer_node (omega arith),
+        asked seller_node (omega arith),
+        told product_node (omega arith) (omega arith),
+        told stock_node (omega arith) (omega arith),
+        told order_node (omega arith) (omega arith),
+        told payment_node (omega arith) (omega arith),
+        told shipment_node (omega arith) (omega arith),
+        told customer_node (omega arith) (omega arith),
+        told seller_node (omega arith) (omega arith),
       ) in
       by (lane == lane_of c) refl rest
     where
-      by : (test : Bool) → (lane == lane_of c) ≡ test → total (made_for h c) (lane_links lane) ≤ made_for h c (Asked lane 0) + made_for h c (Told 0 lane) → total (made_for h c) (lane_links lane) ≤ cond test 2 0
-      by true is rest = let at = eqb-true lane (lane_of c) is in omega (arith, rest, asked_one lane 0 lt, told_one lane at)
+      by : (test : Bool) → (lane == lane_of c) ≡ test → total (made_for h c) (lane_links lane) ≤ made_for h c (Asked lane cart_node) + made_for h c (Told cart_node lane) → total (made_for h c) (lane_links lane) ≤ cond test 2 0
+      by true is rest = let at = eqb-true lane (lane_of c) is in omega (arith, rest, asked_one lane cart_node lt, told_one lane at)
       by false is rest =
           let differs = eqb-false lane (lane_of c) is in
-          omega (arith, rest, asked_none lane 0 lt (λ at cart. differs at), told_none 0 lane (omega arith) (λ at cart. differs at))
+          omega (arith, rest, asked_none lane cart_node lt (λ at cart. differs at), told_none cart_node lane (omega arith) (λ at cart. differs at))
 
   services_few : total (made_for h c) service_links ≤ 12
   services_few =

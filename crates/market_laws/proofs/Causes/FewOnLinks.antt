@@ -1,4 +1,4 @@
--- How many events that name a checkout go on each service link: one at most (few-2 and so on), and on links 3 and 4 together (few-3-4).
+-- How many events that name a checkout go on each service link: one at most (few-2 and so on), and on the two from stock together (few-3-4).
 use Rattle.std.proofs.Common.{◌≡◌, ℕ, ◌+◌, ◌<◌, ◌≤◌, Bool, true, false, cond, List, [], ◌∷◌, count_by, inl, inr, refl, ap, subst, arith}
 use Rattle.std.proofs.lemmas.List.Sums.{sum_by-cons}
 use Rattle.market_amounts.specs.declared.keys.RequestId.{RequestId}
@@ -9,6 +9,7 @@ use Rattle.market_events.specs.declared.events.Event.{Event}
 use Rattle.market_events.specs.declared.links.Link.{Link}
 use Rattle.market_events.specs.declared.links.Link.TheVariants.{Service}
 use Rattle.market_events.specs.Carried.{carries, service_carries}
+use Rattle.market_events.specs.Links.{cart_node, product_node, stock_node, order_node, payment_node, shipment_node}
 use Rattle.market_events.specs.Orders.{ships}
 use Rattle.market_events.specs.Services.{ends, invoices, reserves}
 use Rattle.market_events.specs.Stocks.{settles}
@@ -170,55 +171,55 @@ module _ (h : Histories) (lawful : IsLawful h) (c : RequestId) where
   as_none k n lt is_kind = omega (arith, as_kind k n lt (λ c b. false) is_kind, count-never (bodies_on (Service k) (journal_at h n)))
 
   -- stock holds its pieces or refuses it, and not both
-  one_answer : count_by (holds_pieces c) (bodies_on STOCK_TO_ORDER (journal_at h 2)) + count_by (ends c) (bodies_on STOCK_TO_CART (journal_at h 2)) ≤ 1
+  one_answer : count_by (holds_pieces c) (bodies_on STOCK_TO_ORDER (journal_at h stock_node)) + count_by (ends c) (bodies_on STOCK_TO_CART (journal_at h stock_node)) ≤ 1
   one_answer =
-      let steps = steps_at 2 (journal_at h 2) in
-      let run = steps-run 2 (journal_at h 2) in
-      let held = ap (count_by (holds_pieces c)) (whole h lawful 2 (omega arith) STOCK_TO_ORDER) in
-      let refused = ap (count_by (ends c)) (whole h lawful 2 (omega arith) STOCK_TO_CART) in
+      let steps = steps_at stock_node (journal_at h stock_node) in
+      let run = steps-run stock_node (journal_at h stock_node) in
+      let held = ap (count_by (holds_pieces c)) (whole h lawful stock_node (omega arith) STOCK_TO_ORDER) in
+      let refused = ap (count_by (ends c)) (whole h lawful stock_node (omega arith) STOCK_TO_CART) in
       omega (arith, held, refused, answered-is steps run c, reserves-once steps run c)
 
   pub few-3-4 : made_for h c STOCK_TO_CART + made_for h c STOCK_TO_ORDER ≤ 1
-  few-3-4 = omega (arith, one_answer, as_kind 3 2 (omega arith) ends refusals_on, as_kind 4 2 (omega arith) holds_pieces held_on)
+  few-3-4 = omega (arith, one_answer, as_kind 3 stock_node (omega arith) ends refusals_on, as_kind 4 stock_node (omega arith) holds_pieces held_on)
 
   pub few-0 : made_for h c PRODUCT_TO_CART ≤ 0
-  few-0 = as_none 0 1 (omega arith) none_on_0
+  few-0 = as_none 0 product_node (omega arith) none_on_0
 
   pub few-1 : made_for h c PRODUCT_TO_STOCK ≤ 0
-  few-1 = as_none 1 1 (omega arith) none_on_1
+  few-1 = as_none 1 product_node (omega arith) none_on_1
 
   pub few-15 : made_for h c SHIPMENT_TO_CUSTOMER ≤ 0
-  few-15 = as_none 15 5 (omega arith) none_on_15
+  few-15 = as_none 15 shipment_node (omega arith) none_on_15
 
   pub few-2 : made_for h c CART_TO_STOCK ≤ 1
-  few-2 = omega (arith, as_kind 2 0 (omega arith) reserves reserves_on, (reserves-caused h lawful c).once)
+  few-2 = omega (arith, as_kind 2 cart_node (omega arith) reserves reserves_on, (reserves-caused h lawful c).once)
 
   pub few-5 : made_for h c ORDER_TO_PAYMENT ≤ 1
-  few-5 = omega (arith, as_kind 5 3 (omega arith) invoices invoices_on_5, (invoices-caused h lawful c).once_to_payment)
+  few-5 = omega (arith, as_kind 5 order_node (omega arith) invoices invoices_on_5, (invoices-caused h lawful c).once_to_payment)
 
   pub few-6 : made_for h c ORDER_TO_SELLER ≤ 1
-  few-6 = omega (arith, as_kind 6 3 (omega arith) invoices invoices_on_6, (invoices-caused h lawful c).once_to_seller)
+  few-6 = omega (arith, as_kind 6 order_node (omega arith) invoices invoices_on_6, (invoices-caused h lawful c).once_to_seller)
 
   pub few-7 : made_for h c ORDER_TO_CART ≤ 1
-  few-7 = omega (arith, as_kind 7 3 (omega arith) ends ends_on, (endings-caused h lawful c).once)
+  few-7 = omega (arith, as_kind 7 order_node (omega arith) ends ends_on, (endings-caused h lawful c).once)
 
   pub few-8 : made_for h c PAYMENT_TO_STOCK ≤ 1
-  few-8 = omega (arith, as_kind 8 4 (omega arith) settles settles_on_8, (payments-caused h lawful c).once_to_stock)
+  few-8 = omega (arith, as_kind 8 payment_node (omega arith) settles settles_on_8, (payments-caused h lawful c).once_to_stock)
 
   pub few-9 : made_for h c PAYMENT_TO_ORDER ≤ 1
-  few-9 = omega (arith, as_kind 9 4 (omega arith) settles settles_on_9, (payments-caused h lawful c).once_to_order)
+  few-9 = omega (arith, as_kind 9 payment_node (omega arith) settles settles_on_9, (payments-caused h lawful c).once_to_order)
 
   pub few-10 : made_for h c PAYMENT_TO_SHIPMENT ≤ 1
-  few-10 = omega (arith, as_kind 10 4 (omega arith) settles settles_on_10, (payments-caused h lawful c).once_to_shipment)
+  few-10 = omega (arith, as_kind 10 payment_node (omega arith) settles settles_on_10, (payments-caused h lawful c).once_to_shipment)
 
   pub few-11 : made_for h c PAYMENT_TO_CUSTOMER ≤ 1
-  few-11 = omega (arith, as_kind 11 4 (omega arith) settles settles_on_11, (payments-caused h lawful c).once_to_customer)
+  few-11 = omega (arith, as_kind 11 payment_node (omega arith) settles settles_on_11, (payments-caused h lawful c).once_to_customer)
 
   pub few-12 : made_for h c PAYMENT_TO_SELLER ≤ 1
-  few-12 = omega (arith, as_kind 12 4 (omega arith) settles settles_on_12, (payments-caused h lawful c).once_to_seller)
+  few-12 = omega (arith, as_kind 12 payment_node (omega arith) settles settles_on_12, (payments-caused h lawful c).once_to_seller)
 
   pub few-13 : made_for h c SHIPMENT_TO_ORDER ≤ 1
-  few-13 = omega (arith, as_kind 13 5 (omega arith) ships ships_on_13, (shipments-caused h lawful c).once_to_order)
+  few-13 = omega (arith, as_kind 13 shipment_node (omega arith) ships ships_on_13, (shipments-caused h lawful c).once_to_order)
 
   pub few-14 : made_for h c SHIPMENT_TO_SELLER ≤ 1
-  few-14 = omega (arith, as_kind 14 5 (omega arith) ships ships_on_14, (shipments-caused h lawful c).once_to_seller)
+  few-14 = omega (arith, as_kind 14 shipment_node (omega arith) ships ships_on_14, (shipments-caused h lawful c).once_to_seller)

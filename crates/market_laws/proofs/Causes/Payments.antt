@@ -8,8 +8,7 @@ use Rattle.market_events.specs.declared.bodies.PayRule.{PayRule}
 use Rattle.market_events.specs.declared.bodies.PricedLine.{PricedLine}
 use Rattle.market_events.specs.declared.events.Event.{Event}
 use Rattle.market_events.specs.declared.links.Link.{Link}
-use Rattle.market_events.specs.declared.links.TheConstants.{ORDER_TO_PAYMENT, ORDER_TO_SELLER}
-use Rattle.market_events.specs.declared.links.TheConstants.{PAYMENT_TO_STOCK, PAYMENT_TO_SHIPMENT}
+use Rattle.market_events.specs.declared.links.TheConstants.{ORDER_TO_PAYMENT, ORDER_TO_SELLER, PAYMENT_TO_STOCK, PAYMENT_TO_ORDER, PAYMENT_TO_SHIPMENT, PAYMENT_TO_CUSTOMER, PAYMENT_TO_SELLER}
 use Rattle.market_events.specs.declared.requests.Ask.{Ask}
 use Rattle.market_events.specs.declared.requests.Ask.TheVariants as ask
 use Rattle.market_events.specs.Links.{receiver_of, payment_node, seller_node}
@@ -19,14 +18,13 @@ use Rattle.market_events.specs.declared.roles.Role.{Role}
 use Rattle.market_events.specs.Services.{IsRunOf, answers, role_fits, invoices_for, invoices_lines}
 use Rattle.market_events.specs.Steps.{Step, made_on, same_lines, taken_bodies}
 use Rattle.market_events.specs.Stocks.{confirms, fails, settles, is_settled}
-use Rattle.market_events.specs.declared.links.Link.TheVariants.{Service}
 use Rattle.market_events.proofs.Values.Lists.{and_both}
 use Rattle.market_events.proofs.Steps.Payments.{answers-payment}
 use Rattle.market_events.proofs.Values.Same.{same_id-true, same_id-self, same_lines-true}
 use Rattle.market_history.specs.Blocks.{role_at}
 use Rattle.market_history.specs.Histories.{Histories}
 use Rattle.market_history.specs.Lawful.{IsLawful}
-use Rattle.market_laws.specs.Causes.{HasTaken, IsCausedBy, MakesJust, on_each, PaymentsHaveCauses}
+use Rattle.market_laws.specs.Causes.{HasTaken, IsCausedBy, MakesJust, on_each, PaymentsHaveCauses, failure_links, payment_links}
 use Rattle.market_laws.specs.Cuts.{steps_at, TookAt, MadeAt}
 use Rattle.market_laws.specs.Runs.{Member, is_payment}
 use Rattle.market_laws.proofs.Causes.Blocks.{due-here, made-few, not-among, same-body, makes-these, among-answers, caused-by, made-by, has-taken, made-at, took-at}
@@ -53,7 +51,7 @@ paid_for s (body.Invoice id buyer ls sum) link c customer lines total here =
   where
     paid : Member (link, body.Confirmed c customer lines total) (confirmed_rows (body.Confirmed id buyer ls sum)) → body.Invoice id buyer ls sum ≡ body.Invoice c customer lines total
     paid here =
-        let same : body.Confirmed c customer lines total ≡ body.Confirmed id buyer ls sum = same-body (8 ∷ 11 ∷ 12 ∷ 9 ∷ 10 ∷ []) (body.Confirmed id buyer ls sum) (link, body.Confirmed c customer lines total) here in cc
+        let same : body.Confirmed c customer lines total ≡ body.Confirmed id buyer ls sum = same-body payment_links (body.Confirmed id buyer ls sum) (link, body.Confirmed c customer lines total) here in cc
 
     unpaid : (rule : PayRule) → Member (link, body.Confirmed c customer lines total) (failed_rows (body.Failed id buyer rule)) → body.Invoice id buyer ls sum ≡ body.Invoice c customer lines total
     unpaid rule here =
@@ -73,10 +71,10 @@ unpaid_for s (body.Invoice id buyer ls sum) link c customer rule here =
 
     unpaid : (why : PayRule) → Member (link, body.Failed c customer rule) (failed_rows (body.Failed id buyer why)) → body.Invoice id buyer ls sum ≡ body.Invoice c customer ls sum
     unpaid why here =
-        let same : body.Failed c customer rule ≡ body.Failed id buyer why = same-body (8 ∷ 11 ∷ 12 ∷ 9 ∷ []) (body.Failed id buyer why) (link, body.Failed c customer rule) here in cc
+        let same : body.Failed c customer rule ≡ body.Failed id buyer why = same-body failure_links (body.Failed id buyer why) (link, body.Failed c customer rule) here in cc
 unpaid_for s other link c customer rule here = absurd here
 
--- payments settle a checkout on link 10 once at most
+-- payments settle a checkout to shipments once at most
 settles_few_10 : (id : RequestId) (steps : List Step) → IsRunOf Role.Payment steps → count_by (settles id) (made_on PAYMENT_TO_SHIPMENT steps) ≤ 1
 settles_few_10 id steps run =
     subst (λ bs. count_by (settles id) bs ≤ 1) (sym (payments-10 steps run)) (omega (arith, count-filter (settles id) is_payment (made_on PAYMENT_TO_STOCK steps), settles-few id steps run))
@@ -106,16 +104,16 @@ module _ (h : Histories) (lawful : IsLawful h) (c : RequestId) where
   -- the block of an Invoice
   abbrev Settles : (n : ℕ) (event : Event) → TookAt h n event → ℕ → List PricedLine → ℕ → Type 0
   Settles n event t customer lines total =
-      MakesJust h n event t (on_each (8 ∷ 11 ∷ 12 ∷ 9 ∷ 10 ∷ []) (body.Confirmed c customer lines total))
-      ⊎ ((rule : PayRule) × MakesJust h n event t (on_each (8 ∷ 11 ∷ 12 ∷ 9 ∷ []) (body.Failed c customer rule)))
+      MakesJust h n event t (on_each payment_links (body.Confirmed c customer lines total))
+      ⊎ ((rule : PayRule) × MakesJust h n event t (on_each failure_links (body.Failed c customer rule)))
 
   makes_settled : (event : Event) (customer : ℕ) (lines : List PricedLine) (total : ℕ) → event.body ≡ body.Invoice c customer lines total → (t : TookAt h payment_node event) → Settles payment_node event t customer lines total
   makes_settled event customer lines total is t =
       let steps = steps_at payment_node t.before in
       let all = answers (role_at payment_node) steps event.link event.body in
       invoice_cases (λ rows. all ≡ rows → Settles payment_node event t customer lines total) (payment_sums steps) c customer lines total
-      (λ rows. inl (makes-these h lawful payment_node (omega arith) event t (on_each (8 ∷ 11 ∷ 12 ∷ 9 ∷ 10 ∷ []) (body.Confirmed c customer lines total)) rows))
-      (λ rule rows. inr (rule, makes-these h lawful payment_node (omega arith) event t (on_each (8 ∷ 11 ∷ 12 ∷ 9 ∷ []) (body.Failed c customer rule)) rows))
+      (λ rows. inl (makes-these h lawful payment_node (omega arith) event t (on_each payment_links (body.Confirmed c customer lines total)) rows))
+      (λ rule rows. inr (rule, makes-these h lawful payment_node (omega arith) event t (on_each failure_links (body.Failed c customer rule)) rows))
       (answers-payment steps event.link event.body ∙ ap (payment_rows (payment_sums steps)) is)
 
   -- what sellers took before a payment
@@ -151,28 +149,28 @@ module _ (h : Histories) (lawful : IsLawful h) (c : RequestId) where
           (ls, sum, has-taken h seller_node event lawful t (body.Invoice c customer ls sum) (subst (λ b. TookBefore h seller_node t.clock b) same u) (omega arith) tt 6 refl)
       by other u passes = let no : ⊥ = cc in absurd no
 
-  -- where the same goes on another link as on link 8
-  once_as_8 : (k : ℕ) → ((steps : List Step) → IsRunOf Role.Payment steps → made_on PAYMENT_TO_STOCK steps ≡ made_on (Service k) steps) → (steps : List Step) → IsRunOf Role.Payment steps → count_by (settles c) (made_on (Service k) steps) ≤ 1
-  once_as_8 k same steps run = subst (λ bs. count_by (settles c) bs ≤ 1) (same steps run) (settles-few c steps run)
+  -- where the same goes on another link as to stock
+  once_as_stock : (link : Link) → ((steps : List Step) → IsRunOf Role.Payment steps → made_on PAYMENT_TO_STOCK steps ≡ made_on link steps) → (steps : List Step) → IsRunOf Role.Payment steps → count_by (settles c) (made_on link steps) ≤ 1
+  once_as_stock link same steps run = subst (λ bs. count_by (settles c) bs ≤ 1) (same steps run) (settles-few c steps run)
 
   -- how payments are made
   pub payments-caused : PaymentsHaveCauses h c
   payments-caused = record {
     confirmed_cause = λ n made m customer lines total is.
-        let by = made-by h lawful n made m (body.Confirmed c customer lines total) is tt payment_node (8 ∷ 11 ∷ 12 ∷ 9 ∷ 10 ∷ []) refl in
+        let by = made-by h lawful n made m (body.Confirmed c customer lines total) is tt payment_node payment_links refl in
         (by.0, made-at h made (λ n m. IsCausedBy h n made m ORDER_TO_PAYMENT (body.Invoice c customer lines total)) payment_node n by.1 (λ m. confirmed made m customer lines total is) m);
     failed_cause = λ n made m customer rule is.
-        let by = made-by h lawful n made m (body.Failed c customer rule) is tt payment_node (8 ∷ 11 ∷ 12 ∷ 9 ∷ []) refl in (
+        let by = made-by h lawful n made m (body.Failed c customer rule) is tt payment_node failure_links refl in (
           by.0,
           made-at h made (λ n m. (lines : List PricedLine) × (total : ℕ) × IsCausedBy h n made m ORDER_TO_PAYMENT (body.Invoice c customer lines total)) payment_node n by.1 (λ m. failed made m customer rule is) m,
         );
     makes = λ n event t customer lines total on is.
         took-at h event (λ n t. Settles n event t customer lines total) payment_node n (sym (ap receiver_of on) ∙ t.ready.1) (makes_settled event customer lines total is) t;
-    once_to_stock = made-few h lawful payment_node (omega arith) 8 (settles c) (settles-few c);
-    once_to_customer = made-few h lawful payment_node (omega arith) 11 (settles c) (once_as_8 11 payments-11);
-    once_to_seller = made-few h lawful payment_node (omega arith) 12 (settles c) (once_as_8 12 payments-12);
-    once_to_order = made-few h lawful payment_node (omega arith) 9 (settles c) (once_as_8 9 payments-9);
-    once_to_shipment = made-few h lawful payment_node (omega arith) 10 (settles c) (settles_few_10 c);
+    once_to_stock = made-few h lawful payment_node (omega arith) PAYMENT_TO_STOCK (settles c) (settles-few c);
+    once_to_customer = made-few h lawful payment_node (omega arith) PAYMENT_TO_CUSTOMER (settles c) (once_as_stock PAYMENT_TO_CUSTOMER payments-11);
+    once_to_seller = made-few h lawful payment_node (omega arith) PAYMENT_TO_SELLER (settles c) (once_as_stock PAYMENT_TO_SELLER payments-12);
+    once_to_order = made-few h lawful payment_node (omega arith) PAYMENT_TO_ORDER (settles c) (once_as_stock PAYMENT_TO_ORDER payments-9);
+    once_to_shipment = made-few h lawful payment_node (omega arith) PAYMENT_TO_SHIPMENT (settles c) (settles_few_10 c);
     confirmed_before = invoice_before;
     failed_before = invoice_before_failed;
   }

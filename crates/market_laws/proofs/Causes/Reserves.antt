@@ -1,4 +1,4 @@
--- How a Reserve is made: on link 2, once, in the block of the checkout's request; stock took a change of each of its keys before.
+-- How a Reserve is made: from the cart to stock, once, in the block of the checkout's request; stock took a change of each of its keys before.
 use Rattle.std.proofs.Common.{◌≡◌, ℕ, ◌≤◌, ◌&&◌, not, nat_le, length, true, List, [], ◌∷◌, ◌⊎◌, Option, Some, None, count_by, filter_map, inl, inr, refl, ap, ◌∙◌, subst, arith}
 use Rattle.std.specs.List.{list_all}
 use Rattle.market_amounts.specs.declared.keys.ProductKey.{ProductKey}
@@ -151,11 +151,11 @@ module _ (h : Histories) (lawful : IsLawful h) (c : RequestId) where
   pub reserves-caused : ReservesHaveCauses h c
   reserves-caused = record {
     cause = λ n made m customer lines is.
-        let by = made-by h lawful n made m (body.Reserve c customer lines) is tt cart_node (2 ∷ []) refl in (
-          only-link 2 made.link by.0,
+        let by = made-by h lawful n made m (body.Reserve c customer lines) is tt cart_node (CART_TO_STOCK ∷ []) refl in (
+          only-link CART_TO_STOCK made.link by.0,
           made-at h made (λ n m. IsCausedBy h n made m (Asked (lane_of c) cart_node) (checkout_asked c customer)) cart_node n by.1 (λ m. reserved made m customer lines is) m,
         );
     makes = λ n event t customer is. took-at h event (λ n t. Sends n event t customer) cart_node n (asked-node n event t customer is) (makes_sent event customer is) t;
-    once = made-few h lawful cart_node (omega arith) 2 (reserves c) (sent_few c);
+    once = made-few h lawful cart_node (omega arith) CART_TO_STOCK (reserves c) (sent_few c);
     changes_before = change_before;
   }

@@ -1,4 +1,4 @@
--- How shipments are made: on links 14 and 13, once, in the block of the Confirmed; orders and sellers took the payment before.
+-- How shipments are made: to sellers and to orders, once, in the block of the Confirmed; orders and sellers took the payment before.
 use Rattle.std.proofs.Common.{◌≡◌, ℕ, ◌<◌, ◌≤◌, length, not, true, List, [], ◌∷◌, count_by, refl, ap, sym, ◌∙◌, subst, arith}
 use Rattle.market_amounts.specs.declared.keys.RequestId.{RequestId}
 use Rattle.market_events.specs.declared.bodies.Body.{Body}
@@ -8,8 +8,7 @@ use Rattle.market_events.specs.declared.bodies.PricedLine.{PricedLine}
 use Rattle.market_events.specs.declared.events.Event.{Event}
 use Rattle.market_events.specs.declared.links.Link.{Link}
 use Rattle.market_events.specs.declared.links.Link.TheVariants.{Service}
-use Rattle.market_events.specs.declared.links.TheConstants.{PAYMENT_TO_ORDER, PAYMENT_TO_SHIPMENT}
-use Rattle.market_events.specs.declared.links.TheConstants.{PAYMENT_TO_SELLER}
+use Rattle.market_events.specs.declared.links.TheConstants.{PAYMENT_TO_ORDER, PAYMENT_TO_SHIPMENT, PAYMENT_TO_SELLER, SHIPMENT_TO_ORDER, SHIPMENT_TO_SELLER}
 use Rattle.market_events.specs.declared.requests.Ask.{Ask}
 use Rattle.market_events.specs.declared.requests.Ask.TheVariants as ask
 use Rattle.market_events.specs.Links.{receiver_of, order_node, shipment_node, seller_node}
@@ -24,7 +23,7 @@ use Rattle.market_events.proofs.Steps.Shipments.{answers-shipment}
 use Rattle.market_history.specs.Blocks.{services}
 use Rattle.market_history.specs.Histories.{Histories}
 use Rattle.market_history.specs.Lawful.{IsLawful}
-use Rattle.market_laws.specs.Causes.{HasTaken, IsCausedBy, MakesJust, on_each, ShipmentsHaveCauses}
+use Rattle.market_laws.specs.Causes.{HasTaken, IsCausedBy, MakesJust, on_each, ShipmentsHaveCauses, shipment_links}
 use Rattle.market_laws.specs.Cuts.{steps_at, TookAt, MadeAt}
 use Rattle.market_laws.specs.Runs.{Member}
 use Rattle.market_laws.proofs.Causes.Blocks.{due-here, made-few, not-among, same-body, makes-these, among-answers, caused-by, made-by, has-taken, made-at, took-at}
@@ -51,7 +50,7 @@ asked_ships s id other link c here = here
 shipped_for : (s : ShipmentSums) (b : Body) (link : Link) (c : RequestId) → Member (link, body.Shipped c) (shipment_rows s b) → IsPaymentOf c b
 shipped_for s (body.Asked request) link c here = absurd (asked_ships s request.id request.ask link c here)
 shipped_for s (body.Confirmed id buyer ls sum) link c here =
-    let same : body.Shipped c ≡ body.Shipped id = same-body (14 ∷ 13 ∷ []) (body.Shipped id) (link, body.Shipped c) here in
+    let same : body.Shipped c ≡ body.Shipped id = same-body shipment_links (body.Shipped id) (link, body.Shipped c) here in
     let id_is : id ≡ c = cc in
     (buyer, ls, sum, ap (λ i. body.Confirmed i buyer ls sum) id_is)
 shipped_for s other link c here = absurd here
@@ -71,10 +70,10 @@ module _ (h : Histories) (lawful : IsLawful h) (c : RequestId) where
       (for.0, for.1, for.2, caused-by h shipment_node made m o PAYMENT_TO_SHIPMENT b (came h shipment_node o.event o.took b for.3 (omega arith) tt 10 refl) for.3)
 
   makes_shipped : (event : Event) (customer : ℕ) (lines : List PricedLine) (total : ℕ) → event.body ≡ body.Confirmed c customer lines total → (t : TookAt h shipment_node event)
-      → MakesJust h shipment_node event t (on_each (14 ∷ 13 ∷ []) (body.Shipped c))
+      → MakesJust h shipment_node event t (on_each shipment_links (body.Shipped c))
   makes_shipped event customer lines total is t =
       let steps = steps_at shipment_node t.before in
-      makes-these h lawful shipment_node (omega arith) event t (on_each (14 ∷ 13 ∷ []) (body.Shipped c)) (answers-shipment steps event.link event.body ∙ ap (shipment_rows (shipment_sums steps)) is)
+      makes-these h lawful shipment_node (omega arith) event t (on_each shipment_links (body.Shipped c)) (answers-shipment steps event.link event.body ∙ ap (shipment_rows (shipment_sums steps)) is)
 
   -- a payment that was taken before
   payment_before : (s : ℕ) (event : Event) (t : TookAt h s event) → s < services → (k : ℕ)
@@ -111,12 +110,12 @@ module _ (h : Histories) (lawful : IsLawful h) (c : RequestId) where
   pub shipments-caused : ShipmentsHaveCauses h c
   shipments-caused = record {
     cause = λ n made m is.
-        let by = made-by h lawful n made m (body.Shipped c) is tt shipment_node (14 ∷ 13 ∷ []) refl in
+        let by = made-by h lawful n made m (body.Shipped c) is tt shipment_node shipment_links refl in
         (by.0, made-at h made (λ n m. Paid n made m) shipment_node n by.1 (λ m. shipped made m is) m);
     makes = λ n event t customer lines total on is.
-        took-at h event (λ n t. MakesJust h n event t (on_each (14 ∷ 13 ∷ []) (body.Shipped c))) shipment_node n (sym (ap receiver_of on) ∙ t.ready.1) (makes_shipped event customer lines total is) t;
-    once_to_seller = made-few h lawful shipment_node (omega arith) 14 (ships c) (λ steps run. subst (λ bs. count_by (ships c) bs ≤ 1) (shipments-14 steps run) (ships-few c steps run));
-    once_to_order = made-few h lawful shipment_node (omega arith) 13 (ships c) (ships-few c);
+        took-at h event (λ n t. MakesJust h n event t (on_each shipment_links (body.Shipped c))) shipment_node n (sym (ap receiver_of on) ∙ t.ready.1) (makes_shipped event customer lines total is) t;
+    once_to_seller = made-few h lawful shipment_node (omega arith) SHIPMENT_TO_SELLER (ships c) (λ steps run. subst (λ bs. count_by (ships c) bs ≤ 1) (shipments-14 steps run) (ships-few c steps run));
+    once_to_order = made-few h lawful shipment_node (omega arith) SHIPMENT_TO_ORDER (ships c) (ships-few c);
     order_before = order_before;
     seller_before = seller_before;
   }

@@ -120,15 +120,15 @@ module _ (h : Histories) (lawful : IsLawful h) (c : RequestId) where
   pub stock-answers : StockAnswersHaveCauses h c
   stock-answers = record {
     confirmed_cause = λ n made m customer lines is.
-        let by = made-by h lawful n made m (body.StockConfirmed c customer lines) is tt stock_node (4 ∷ []) refl in
-        (only-link 4 made.link by.0, made-at h made (λ n m. IsCausedBy h n made m CART_TO_STOCK (body.Reserve c customer lines)) stock_node n by.1 (λ m. confirmed made m customer lines is) m);
+        let by = made-by h lawful n made m (body.StockConfirmed c customer lines) is tt stock_node (STOCK_TO_ORDER ∷ []) refl in
+        (only-link STOCK_TO_ORDER made.link by.0, made-at h made (λ n m. IsCausedBy h n made m CART_TO_STOCK (body.Reserve c customer lines)) stock_node n by.1 (λ m. confirmed made m customer lines is) m);
     failed_cause = λ n made m key rule is.
-        let by = made-by h lawful n made m (body.ReserveFailed c key rule) is tt stock_node (3 ∷ []) refl in (
-          only-link 3 made.link by.0,
+        let by = made-by h lawful n made m (body.ReserveFailed c key rule) is tt stock_node (STOCK_TO_CART ∷ []) refl in (
+          only-link STOCK_TO_CART made.link by.0,
           made-at h made (λ n m. (customer : ℕ) × (lines : List PricedLine) × IsCausedBy h n made m CART_TO_STOCK (body.Reserve c customer lines)) stock_node n by.1 (λ m. failed made m key rule is) m,
         );
     makes = λ n event t customer lines on is.
         took-at h event (λ n t. Answered n event t customer lines) stock_node n (sym (ap receiver_of on) ∙ t.ready.1) (answered event customer lines is) t;
-    confirmed_once = made-few h lawful stock_node (omega arith) 4 (holds_pieces c) (held-few c);
-    failed_once = made-few h lawful stock_node (omega arith) 3 (ends c) (refused_few c);
+    confirmed_once = made-few h lawful stock_node (omega arith) STOCK_TO_ORDER (holds_pieces c) (held-few c);
+    failed_once = made-few h lawful stock_node (omega arith) STOCK_TO_CART (ends c) (refused_few c);
   }

@@ -8,7 +8,7 @@ use Rattle.market_events.specs.declared.bodies.Body.TheVariants as body
 use Rattle.market_events.specs.declared.bodies.PricedLine.{PricedLine}
 use Rattle.market_events.specs.declared.events.Event.{Event}
 use Rattle.market_events.specs.declared.links.Link.TheVariants.{Service}
-use Rattle.market_events.specs.Links.{sender_of}
+use Rattle.market_events.specs.Links.{sender_of, cart_node, stock_node, order_node, payment_node}
 use Rattle.market_events.specs.Orders.{is_of, is_taken, ships, checkouts_taken}
 use Rattle.market_events.specs.declared.roles.Role.{Role}
 use Rattle.market_events.specs.Services.{IsRunOf, ends}
@@ -74,25 +74,25 @@ module _ (h : Histories) (lawful : IsLawful h) where
       (found.0, record { event = o.event; took = o.took; clock_is = omega arith; body_is = o.body_is }, found.2)
 
   -- what order takes as held, stock held
-  pub held-of-order : (checkout : RequestId) (customer : ℕ) (lines : List PricedLine) (top : ℕ) → TookBefore h 3 top (body.StockConfirmed checkout customer lines) → MadeBefore h 2 4 (body.StockConfirmed checkout customer lines) top
-  held-of-order checkout customer lines top u = before-sent 3 4 2 (body.StockConfirmed checkout customer lines) top u (omega arith) tt refl refl
+  pub held-of-order : (checkout : RequestId) (customer : ℕ) (lines : List PricedLine) (top : ℕ) → TookBefore h order_node top (body.StockConfirmed checkout customer lines) → MadeBefore h stock_node 4 (body.StockConfirmed checkout customer lines) top
+  held-of-order checkout customer lines top u = before-sent order_node 4 stock_node (body.StockConfirmed checkout customer lines) top u (omega arith) tt refl refl
 
   -- what is invoiced, stock held
-  pub held-of-invoice : (checkout : RequestId) (customer : ℕ) (lines : List PricedLine) (total top : ℕ) → TookBefore h 4 top (body.Invoice checkout customer lines total) → MadeBefore h 2 4 (body.StockConfirmed checkout customer lines) top
+  pub held-of-invoice : (checkout : RequestId) (customer : ℕ) (lines : List PricedLine) (total top : ℕ) → TookBefore h payment_node top (body.Invoice checkout customer lines total) → MadeBefore h stock_node 4 (body.StockConfirmed checkout customer lines) top
   held-of-invoice checkout customer lines total top u =
-      let m = before-sent 4 5 3 (body.Invoice checkout customer lines total) top u (omega arith) tt refl refl in
+      let m = before-sent payment_node 5 order_node (body.Invoice checkout customer lines total) top u (omega arith) tt refl refl in
       held-of-order checkout customer lines top
-      (sent-origin 3 5 (body.Invoice checkout customer lines total) (body.StockConfirmed checkout customer lines) top (omega arith) m (λ steps run here. (invoice-held steps run checkout customer lines total here).0))
+      (sent-origin order_node 5 (body.Invoice checkout customer lines total) (body.StockConfirmed checkout customer lines) top (omega arith) m (λ steps run here. (invoice-held steps run checkout customer lines total here).0))
 
   -- what stock took, the cart sent on
-  pub sent-of-stock : (checkout : RequestId) (customer : ℕ) (lines : List PricedLine) (top : ℕ) → TookBefore h 2 top (body.Reserve checkout customer lines) → MadeBefore h 0 2 (body.Reserve checkout customer lines) top
-  sent-of-stock checkout customer lines top u = before-sent 2 2 0 (body.Reserve checkout customer lines) top u (omega arith) tt refl refl
+  pub sent-of-stock : (checkout : RequestId) (customer : ℕ) (lines : List PricedLine) (top : ℕ) → TookBefore h stock_node top (body.Reserve checkout customer lines) → MadeBefore h cart_node 2 (body.Reserve checkout customer lines) top
+  sent-of-stock checkout customer lines top u = before-sent stock_node 2 cart_node (body.Reserve checkout customer lines) top u (omega arith) tt refl refl
 
   -- and so what stock held
-  pub sent-of-held : (checkout : RequestId) (customer : ℕ) (lines : List PricedLine) (top : ℕ) → MadeBefore h 2 4 (body.StockConfirmed checkout customer lines) top → MadeBefore h 0 2 (body.Reserve checkout customer lines) top
+  pub sent-of-held : (checkout : RequestId) (customer : ℕ) (lines : List PricedLine) (top : ℕ) → MadeBefore h stock_node 4 (body.StockConfirmed checkout customer lines) top → MadeBefore h cart_node 2 (body.Reserve checkout customer lines) top
   sent-of-held checkout customer lines top m =
       sent-of-stock checkout customer lines top
-      (sent-origin 2 4 (body.StockConfirmed checkout customer lines) (body.Reserve checkout customer lines) top (omega arith) m (λ steps run here. held-reserve steps run checkout customer lines here))
+      (sent-origin stock_node 4 (body.StockConfirmed checkout customer lines) (body.Reserve checkout customer lines) top (omega arith) m (λ steps run here. held-reserve steps run checkout customer lines here))
 
 -- an order that ends a checkout took it
 ended_taken : (steps : List Step) → IsRunOf Role.Order steps → (id : RequestId) → list_any (ends id) (made_on ORDER_TO_CART steps) ≡ true → list_any (is_of id) (checkouts_taken steps) ≡ true
@@ -129,22 +129,22 @@ ended_held steps run id any =
 pub record HeldBefore (h : Histories) (id : RequestId) (top : ℕ) : Type 0 where
   pub customer : ℕ
   pub lines : List PricedLine
-  pub made : MadeBefore h 2 4 (body.StockConfirmed id customer lines) top
+  pub made : MadeBefore h stock_node 4 (body.StockConfirmed id customer lines) top
 
 module _ (h : Histories) (lawful : IsLawful h) where
-  pub held-of-ended : (id : RequestId) (b : Body) (top : ℕ) → MadeBefore h 3 7 b top → ends id b ≡ true → HeldBefore h id top
+  pub held-of-ended : (id : RequestId) (b : Body) (top : ℕ) → MadeBefore h order_node 7 b top → ends id b ≡ true → HeldBefore h id top
   held-of-ended id b top m ended =
-      let found = sent-origin-some h lawful 3 7 b top (omega arith) m (IsHeldFor id) (λ steps run here. ended_held steps run id (any_of_member (ends id) b (made_on ORDER_TO_CART steps) here ended)) in
+      let found = sent-origin-some h lawful order_node 7 b top (omega arith) m (IsHeldFor id) (λ steps run here. ended_held steps run id (any_of_member (ends id) b (made_on ORDER_TO_CART steps) here ended)) in
       let held = found.2 in
-      record { customer = held.0; lines = held.1; made = held-of-order h lawful id held.0 held.1 top (subst (λ c. TookBefore h 3 top c) held.2 found.1) }
+      record { customer = held.0; lines = held.1; made = held-of-order h lawful id held.0 held.1 top (subst (λ c. TookBefore h order_node top c) held.2 found.1) }
 
   -- stock does not hold the pieces of a checkout and refuse it too
-  pub held-or-failed : (id : RequestId) (customer : ℕ) (lines : List PricedLine) (top : ℕ) (b : Body) (high : ℕ) → MadeBefore h 2 4 (body.StockConfirmed id customer lines) top → MadeBefore h 2 3 b high → ends id b ≡ true → ⊥
+  pub held-or-failed : (id : RequestId) (customer : ℕ) (lines : List PricedLine) (top : ℕ) (b : Body) (high : ℕ) → MadeBefore h stock_node 4 (body.StockConfirmed id customer lines) top → MadeBefore h stock_node 3 b high → ends id b ≡ true → ⊥
   held-or-failed id customer lines top b high m f ended =
-      let steps = steps_at 2 (journal_at h 2) in
-      let run : IsRunOf Role.Stock steps = steps-run 2 (journal_at h 2) in
+      let steps = steps_at stock_node (journal_at h stock_node) in
+      let run : IsRunOf Role.Stock steps = steps-run stock_node (journal_at h stock_node) in
       let holds : holds_pieces id m.event.body ≡ true = ap (holds_pieces id) m.body_is ∙ same_id-self id in
       let refuses : ends id f.event.body ≡ true = ap (ends id) f.body_is ∙ ended in
-      let held = any_of_member (holds_pieces id) m.event.body (made_on STOCK_TO_ORDER steps) (made-whole h lawful 2 (omega arith) m.event 4 m.made m.on) holds in
-      let failed = any_of_member (ends id) f.event.body (made_on STOCK_TO_CART steps) (made-whole h lawful 2 (omega arith) f.event 3 f.made f.on) refuses in
+      let held = any_of_member (holds_pieces id) m.event.body (made_on STOCK_TO_ORDER steps) (made-whole h lawful stock_node (omega arith) m.event 4 m.made m.on) holds in
+      let failed = any_of_member (ends id) f.event.body (made_on STOCK_TO_CART steps) (made-whole h lawful stock_node (omega arith) f.event 3 f.made f.on) refuses in
       omega (arith, answered-is steps run id, reserves-once steps run id, count-some (holds_pieces id) (made_on STOCK_TO_ORDER steps) held, count-some (ends id) (made_on STOCK_TO_CART steps) failed)

@@ -37,7 +37,7 @@ use Rattle.market_laws.proofs.Runs.Orders.{invoice-held}
 use Rattle.market_laws.proofs.Runs.Payments.{payments-9, payments-10, payments-12, confirmed-invoice, failed-invoice}
 use Rattle.market_laws.proofs.Runs.Shipments.{delivered-paid}
 
--- what payments make on the link k they make on link 8
+-- what payments make on the link k they make to stock
 abbrev pub IsOnEight : ℕ → Type 0
 IsOnEight k = (steps : List Step) → IsRunOf Role.Payment steps → (b : Body) → Member b (made_on (Service k) steps) → Member b (made_on PAYMENT_TO_STOCK steps)
 
@@ -80,7 +80,7 @@ paid-back h g lawful took checkout customer lines total is =
 abbrev pub IsPaidItem : Item → Body → Type 0
 IsPaidItem item b = (lines : List PricedLine) × (total : ℕ) × (b ≡ body.Confirmed item.checkout item.customer lines total) × (is_line_of lines item ≡ true)
 
--- an item of a delivery on the link k goes back to its payment, where the link's deliveries go on link 13
+-- an item of a delivery on the link k goes back to its payment, where the link's deliveries go to orders
 pub paid-item : (h : Histories) (s : ℕ) (event : Event) → IsLawful h → (t : TookAt h s event) (k : ℕ) → event.link ≡ Service k → sender_of (Service k) ≡ shipment_node → (items : List Item) → event.body ≡ body.Delivered items
     → ((steps : List Step) → IsRunOf Role.Shipment steps → Member (body.Delivered items) (made_on (Service k) steps) → Member (body.Delivered items) (made_on SHIPMENT_TO_ORDER steps)) → (item : Item) → Member item items
     → BackSome h shipment_node event t.clock (IsPaidItem item)
@@ -91,7 +91,7 @@ paid-item h s event lawful t k on leaves items is thirteen item here =
     (body.Confirmed item.checkout item.customer paid.lines paid.total, paid.taken, (paid.lines, paid.total, refl, paid.line)))
 
 module _ (h : Histories) (f : Event) (lawful : IsLawful h) (took : TookAt h payment_node f) (checkout : RequestId) (customer : ℕ) (lines : List PricedLine) (total : ℕ) (is : f.body ≡ body.Invoice checkout customer lines total) where
-  -- an invoice that payments took came on link 5
+  -- an invoice that payments took came from orders
   pub invoice-on : f.link ≡ ORDER_TO_PAYMENT
   invoice-on = came-alone h payment_node f took (invoices checkout) 5 (invoice-payment checkout) (ap (invoices checkout) is ∙ same_id-self checkout)
 

@@ -10,6 +10,7 @@ use Rattle.market_events.specs.declared.bodies.PricedLine.{PricedLine}
 use Rattle.market_events.specs.declared.bodies.StockRule.{StockRule}
 use Rattle.market_events.specs.declared.events.Event.{Event}
 use Rattle.market_events.specs.declared.roles.Role.{Role}
+use Rattle.market_events.specs.Links.{cart_node, stock_node, order_node}
 use Rattle.market_events.specs.Services.{IsRunOf, role_fits, ends, reserves}
 use Rattle.market_events.specs.Steps.{Step, taken_bodies, made_on}
 use Rattle.market_events.specs.declared.links.TheConstants.{CART_TO_STOCK, STOCK_TO_CART, ORDER_TO_CART}
@@ -35,104 +36,104 @@ failed_once steps run id = omega (arith, answered-is steps run id, reserves-once
 abbrev IsSentFor : RequestId → Body → Type 0
 IsSentFor id b = (customer : ℕ) × (lines : List PricedLine) × (b ≡ body.Reserve id customer lines)
 
-module _ (h : Histories) (lawful : IsLawful h) (event : Event) (t : TookAt h 0 event) where
+module _ (h : Histories) (lawful : IsLawful h) (event : Event) (t : TookAt h cart_node event) where
   -- what the cart sent on before it made before
-  was_sent : (id : RequestId) (customer : ℕ) (lines : List PricedLine) → MadeBefore h 0 2 (body.Reserve id customer lines) t.clock → list_any (reserves id) (made_on CART_TO_STOCK (steps_at 0 t.before)) ≡ true
+  was_sent : (id : RequestId) (customer : ℕ) (lines : List PricedLine) → MadeBefore h cart_node 2 (body.Reserve id customer lines) t.clock → list_any (reserves id) (made_on CART_TO_STOCK (steps_at cart_node t.before)) ≡ true
   was_sent id customer lines m =
-      any_of_member (reserves id) m.event.body (made_on CART_TO_STOCK (steps_at 0 t.before)) (made-before h lawful 0 (omega arith) event t m.event 2 m.made m.clock m.on)
+      any_of_member (reserves id) m.event.body (made_on CART_TO_STOCK (steps_at cart_node t.before)) (made-before h lawful cart_node (omega arith) event t m.event 2 m.made m.clock m.on)
       (ap (reserves id) m.body_is ∙ same_id-self id)
 
   -- where one end comes at most on its link, and none can have come on the other, none came before
-  none_ended : (id : RequestId) → ((other : Event) → (u : TookAt h 0 other) → u.clock < t.clock → ends id other.body ≡ true → ⊥) → list_any (ends id) (taken_bodies (steps_at 0 t.before)) ≡ false
-  none_ended id refuted = false_from (list_any (ends id) (taken_bodies (steps_at 0 t.before))) none
+  none_ended : (id : RequestId) → ((other : Event) → (u : TookAt h cart_node other) → u.clock < t.clock → ends id other.body ≡ true → ⊥) → list_any (ends id) (taken_bodies (steps_at cart_node t.before)) ≡ false
+  none_ended id refuted = false_from (list_any (ends id) (taken_bodies (steps_at cart_node t.before))) none
     where
-      none : list_any (ends id) (taken_bodies (steps_at 0 t.before)) ≡ true → false ≡ true
+      none : list_any (ends id) (taken_bodies (steps_at cart_node t.before)) ≡ true → false ≡ true
       none any =
-          let found = taken-before-any h 0 event lawful t (ends id) any in
+          let found = taken-before-any h cart_node event lawful t (ends id) any in
           let u = found.1 in
           absurd (refuted u.event u.took u.clock_is (ap (ends id) u.body_is ∙ found.2))
 
   module _ (checkout : RequestId) (key : ProductKey) (rule : StockRule) (is : event.body ≡ body.ReserveFailed checkout key rule) where
     failed_on : event.link ≡ STOCK_TO_CART
-    failed_on = came h 0 event t (body.ReserveFailed checkout key rule) is (omega arith) tt 3 refl
+    failed_on = came h cart_node event t (body.ReserveFailed checkout key rule) is (omega arith) tt 3 refl
 
-    failed_made : MadeBefore h 2 3 (body.ReserveFailed checkout key rule) t.clock
-    failed_made = taken-sent h lawful 0 3 2 event t failed_on refl (body.ReserveFailed checkout key rule) is t.clock (omega arith)
+    failed_made : MadeBefore h stock_node 3 (body.ReserveFailed checkout key rule) t.clock
+    failed_made = taken-sent h lawful cart_node 3 stock_node event t failed_on refl (body.ReserveFailed checkout key rule) is t.clock (omega arith)
 
-    failed_sent : list_any (reserves checkout) (made_on CART_TO_STOCK (steps_at 0 t.before)) ≡ true
+    failed_sent : list_any (reserves checkout) (made_on CART_TO_STOCK (steps_at cart_node t.before)) ≡ true
     failed_sent =
-        let found = sent-origin-some h lawful 2 3 (body.ReserveFailed checkout key rule) t.clock (omega arith) failed_made (IsSentFor checkout)
+        let found = sent-origin-some h lawful stock_node 3 (body.ReserveFailed checkout key rule) t.clock (omega arith) failed_made (IsSentFor checkout)
         (λ steps run here. let f = failed-reserve steps run checkout key rule here in (body.Reserve checkout f.0 f.1, f.2, (f.0, f.1, refl))) in
         let for = found.2 in
-        was_sent checkout for.0 for.1 (sent-of-stock h lawful checkout for.0 for.1 t.clock (subst (λ c. TookBefore h 2 t.clock c) for.2 found.1))
+        was_sent checkout for.0 for.1 (sent-of-stock h lawful checkout for.0 for.1 t.clock (subst (λ c. TookBefore h stock_node t.clock c) for.2 found.1))
 
-    failed_new : list_any (ends checkout) (taken_bodies (steps_at 0 t.before)) ≡ false
+    failed_new : list_any (ends checkout) (taken_bodies (steps_at cart_node t.before)) ≡ false
     failed_new = none_ended checkout (λ other u less ended. by other u less other.body refl ended)
       where
-        few : count_by (ends checkout) (made_on STOCK_TO_CART (steps_at 2 (journal_at h 2))) ≤ 1
-        few = failed_once (steps_at 2 (journal_at h 2)) (steps-run 2 (journal_at h 2)) checkout
+        few : count_by (ends checkout) (made_on STOCK_TO_CART (steps_at stock_node (journal_at h stock_node))) ≤ 1
+        few = failed_once (steps_at stock_node (journal_at h stock_node)) (steps-run stock_node (journal_at h stock_node)) checkout
 
-        by : (other : Event) → (u : TookAt h 0 other) → u.clock < t.clock → (b : Body) → other.body ≡ b → ends checkout b ≡ true → ⊥
+        by : (other : Event) → (u : TookAt h cart_node other) → u.clock < t.clock → (b : Body) → other.body ≡ b → ends checkout b ≡ true → ⊥
         by other u less (body.ReserveFailed id k r) same ended =
-            once-link h 0 event lawful t (ends checkout) (few-service h 0 event lawful t 3 2 failed_on refl (omega arith) (ends checkout) few)
+            once-link h cart_node event lawful t (ends checkout) (few-service h cart_node event lawful t 3 stock_node failed_on refl (omega arith) (ends checkout) few)
             (ap (ends checkout) is ∙ same_id-self checkout) other u less
-            (came h 0 other u (body.ReserveFailed id k r) same (omega arith) tt 3 refl ∙ sym failed_on) (ap (ends checkout) same ∙ ended)
+            (came h cart_node other u (body.ReserveFailed id k r) same (omega arith) tt 3 refl ∙ sym failed_on) (ap (ends checkout) same ∙ ended)
         by other u less (body.Ended id ending) same ended =
-            let on : other.link ≡ ORDER_TO_CART = came h 0 other u (body.Ended id ending) same (omega arith) tt 7 refl in
-            let m = taken-sent h lawful 0 7 3 other u on refl (body.Ended id ending) same u.clock (omega arith) in
+            let on : other.link ≡ ORDER_TO_CART = came h cart_node other u (body.Ended id ending) same (omega arith) tt 7 refl in
+            let m = taken-sent h lawful cart_node 7 order_node other u on refl (body.Ended id ending) same u.clock (omega arith) in
             let held = held-of-ended h lawful checkout (body.Ended id ending) u.clock m ended in
             held-or-failed h lawful checkout held.customer held.lines u.clock (body.ReserveFailed checkout key rule) t.clock held.made failed_made (same_id-self checkout)
         by other u less b same ended = cc
 
     -- the end of a checkout that stock refused fits
-    cart_failed : role_fits Role.Cart (steps_at 0 t.before) (body.ReserveFailed checkout key rule) ≡ true
+    cart_failed : role_fits Role.Cart (steps_at cart_node t.before) (body.ReserveFailed checkout key rule) ≡ true
     cart_failed =
-        and_from (list_any (reserves checkout) (made_on CART_TO_STOCK (steps_at 0 t.before))) (not (list_any (ends checkout) (taken_bodies (steps_at 0 t.before)))) failed_sent (ap not failed_new)
+        and_from (list_any (reserves checkout) (made_on CART_TO_STOCK (steps_at cart_node t.before))) (not (list_any (ends checkout) (taken_bodies (steps_at cart_node t.before)))) failed_sent (ap not failed_new)
 
   module _ (checkout : RequestId) (ending : Ending) (is : event.body ≡ body.Ended checkout ending) where
     ended_on : event.link ≡ ORDER_TO_CART
-    ended_on = came h 0 event t (body.Ended checkout ending) is (omega arith) tt 7 refl
+    ended_on = came h cart_node event t (body.Ended checkout ending) is (omega arith) tt 7 refl
 
     ended_held : HeldBefore h checkout t.clock
     ended_held =
         held-of-ended h lawful checkout (body.Ended checkout ending) t.clock
-        (taken-sent h lawful 0 7 3 event t ended_on refl (body.Ended checkout ending) is t.clock (omega arith)) (same_id-self checkout)
+        (taken-sent h lawful cart_node 7 order_node event t ended_on refl (body.Ended checkout ending) is t.clock (omega arith)) (same_id-self checkout)
 
-    ended_sent : list_any (reserves checkout) (made_on CART_TO_STOCK (steps_at 0 t.before)) ≡ true
+    ended_sent : list_any (reserves checkout) (made_on CART_TO_STOCK (steps_at cart_node t.before)) ≡ true
     ended_sent =
         let held = ended_held in
         was_sent checkout held.customer held.lines (sent-of-held h lawful checkout held.customer held.lines t.clock held.made)
 
-    ended_new : list_any (ends checkout) (taken_bodies (steps_at 0 t.before)) ≡ false
+    ended_new : list_any (ends checkout) (taken_bodies (steps_at cart_node t.before)) ≡ false
     ended_new = none_ended checkout (λ other u less ended. by other u less other.body refl ended)
       where
-        few : count_by (ends checkout) (made_on ORDER_TO_CART (steps_at 3 (journal_at h 3))) ≤ 1
-        few = ends-once (steps_at 3 (journal_at h 3)) (steps-run 3 (journal_at h 3)) checkout
+        few : count_by (ends checkout) (made_on ORDER_TO_CART (steps_at order_node (journal_at h order_node))) ≤ 1
+        few = ends-once (steps_at order_node (journal_at h order_node)) (steps-run order_node (journal_at h order_node)) checkout
 
-        by : (other : Event) → (u : TookAt h 0 other) → u.clock < t.clock → (b : Body) → other.body ≡ b → ends checkout b ≡ true → ⊥
+        by : (other : Event) → (u : TookAt h cart_node other) → u.clock < t.clock → (b : Body) → other.body ≡ b → ends checkout b ≡ true → ⊥
         by other u less (body.ReserveFailed id k r) same ended =
-            let on : other.link ≡ STOCK_TO_CART = came h 0 other u (body.ReserveFailed id k r) same (omega arith) tt 3 refl in
-            let m = taken-sent h lawful 0 3 2 other u on refl (body.ReserveFailed id k r) same u.clock (omega arith) in
+            let on : other.link ≡ STOCK_TO_CART = came h cart_node other u (body.ReserveFailed id k r) same (omega arith) tt 3 refl in
+            let m = taken-sent h lawful cart_node 3 stock_node other u on refl (body.ReserveFailed id k r) same u.clock (omega arith) in
             let held = ended_held in
             held-or-failed h lawful checkout held.customer held.lines t.clock (body.ReserveFailed id k r) u.clock held.made m ended
         by other u less (body.Ended id e) same ended =
-            once-link h 0 event lawful t (ends checkout) (few-service h 0 event lawful t 7 3 ended_on refl (omega arith) (ends checkout) few)
+            once-link h cart_node event lawful t (ends checkout) (few-service h cart_node event lawful t 7 order_node ended_on refl (omega arith) (ends checkout) few)
             (ap (ends checkout) is ∙ same_id-self checkout) other u less
-            (came h 0 other u (body.Ended id e) same (omega arith) tt 7 refl ∙ sym ended_on) (ap (ends checkout) same ∙ ended)
+            (came h cart_node other u (body.Ended id e) same (omega arith) tt 7 refl ∙ sym ended_on) (ap (ends checkout) same ∙ ended)
         by other u less b same ended = cc
 
     -- the end of a checkout that order ended fits
-    cart_ended : role_fits Role.Cart (steps_at 0 t.before) (body.Ended checkout ending) ≡ true
+    cart_ended : role_fits Role.Cart (steps_at cart_node t.before) (body.Ended checkout ending) ≡ true
     cart_ended =
-        and_from (list_any (reserves checkout) (made_on CART_TO_STOCK (steps_at 0 t.before))) (not (list_any (ends checkout) (taken_bodies (steps_at 0 t.before)))) ended_sent (ap not ended_new)
+        and_from (list_any (reserves checkout) (made_on CART_TO_STOCK (steps_at cart_node t.before))) (not (list_any (ends checkout) (taken_bodies (steps_at cart_node t.before)))) ended_sent (ap not ended_new)
 
 -- what the cart takes fits, but for requests
-pub cart_fits_all : (h : Histories) → IsLawful h → (event : Event) → (t : TookAt h 0 event) → FitsBelow h t.clock → IsNoRequest event.body → role_fits Role.Cart (steps_at 0 t.before) event.body ≡ true
+pub cart_fits_all : (h : Histories) → IsLawful h → (event : Event) → (t : TookAt h cart_node event) → FitsBelow h t.clock → IsNoRequest event.body → role_fits Role.Cart (steps_at cart_node t.before) event.body ≡ true
 cart_fits_all h lawful event t below quiet = by event.body refl quiet
   where
-    by : (b : Body) → event.body ≡ b → IsNoRequest b → role_fits Role.Cart (steps_at 0 t.before) b ≡ true
+    by : (b : Body) → event.body ≡ b → IsNoRequest b → role_fits Role.Cart (steps_at cart_node t.before) b ≡ true
     by (body.Asked request) is quiet = absurd quiet
     by (body.Changed key version c) is quiet = cart-changed h lawful event t below key version c is
     by (body.ReserveFailed checkout key rule) is quiet = cart_failed h lawful event t checkout key rule is
     by (body.Ended checkout ending) is quiet = cart_ended h lawful event t checkout ending is
-    by other is quiet = absurd (never-came h 0 event t other is (omega arith) tt refl)
+    by other is quiet = absurd (never-came h cart_node event t other is (omega arith) tt refl)

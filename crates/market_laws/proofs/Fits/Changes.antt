@@ -12,7 +12,7 @@ use Rattle.market_events.specs.declared.links.Link.TheVariants.{Service}
 use Rattle.market_events.specs.Carried.{carries}
 use Rattle.market_events.specs.Carts.{changes_taken}
 use Rattle.market_events.specs.Copies.{copy_of}
-use Rattle.market_events.specs.Links.{IsLink, sender_of, receiver_of, same_link}
+use Rattle.market_events.specs.Links.{IsLink, sender_of, receiver_of, same_link, cart_node, product_node, stock_node}
 use Rattle.market_events.specs.Products.{change_in}
 use Rattle.market_events.specs.declared.roles.Role.{Role}
 use Rattle.market_events.specs.Services.{IsRunOf, change_fits, role_fits}
@@ -47,7 +47,7 @@ no_change s k small only other b on into carried apart = refl
 abbrev MakesChanges : ℕ → Type 0
 MakesChanges k = (steps : List Step) → IsRunOf Role.Product steps → made_on (Service k) steps ≡ made_on PRODUCT_TO_STOCK steps
 
-module _ (h : Histories) (lawful : IsLawful h) (s k : ℕ) (small : s < services) (only : ChangesOn s k) (made : MakesChanges k) (leaves : 1 ≡ sender_of (Service k)) (event : Event) (t : TookAt h s event) (below : FitsBelow h t.clock) where
+module _ (h : Histories) (lawful : IsLawful h) (s k : ℕ) (small : s < services) (only : ChangesOn s k) (made : MakesChanges k) (leaves : product_node ≡ sender_of (Service k)) (event : Event) (t : TookAt h s event) (below : FitsBelow h t.clock) where
   -- the changes that it took before are those that came on the link
   changes_got : changes_taken (steps_at s t.before) ≡ filter_map change_in (map (λ (e : Event). e.body) (got (Service k) t.before))
   changes_got = ap (filter_map change_in) (all-below h lawful s small event t below) ∙ gathered-got change_in s (Service k) t.grown (no_change s k small only)
@@ -56,19 +56,19 @@ module _ (h : Histories) (lawful : IsLawful h) (s k : ℕ) (small : s < services
   changed_fits key version c is =
       let on : event.link ≡ Service k = came h s event t (body.Changed key version c) is small tt k (only key version c) in
       let there = sent-bodies-on h lawful s event (Service k) t on in
-      let steps = steps_at 1 (journal_at h 1) in
-      let run : IsRunOf Role.Product steps = steps-run 1 (journal_at h 1) in
+      let steps = steps_at product_node (journal_at h product_node) in
+      let run : IsRunOf Role.Product steps = steps-run product_node (journal_at h product_node) in
       let xs = map (λ (e : Event). e.body) (got (Service k) t.before) in
       let all : made_on PRODUCT_TO_STOCK steps ≡ xs ++ body.Changed key version c ∷ there.0 =
-      sym (made steps run) ∙ sym (whole h lawful 1 (omega arith) (Service k)) ∙ ap (λ n. bodies_on (Service k) (journal_at h n)) leaves
+      sym (made steps run) ∙ sym (whole h lawful product_node (omega arith) (Service k)) ∙ ap (λ n. bodies_on (Service k) (journal_at h n)) leaves
       ∙ there.1 ∙ ap (λ b. xs ++ b ∷ there.0) is in
       subst (λ changes. change_fits (copy_of changes key) version c ≡ true) (sym changes_got) (change-fits steps run xs there.0 key version c all)
 
 -- at the cart, and at stock
-pub cart-changed : (h : Histories) → IsLawful h → (event : Event) → (t : TookAt h 0 event) → FitsBelow h t.clock → (key : ProductKey) (version : ℕ) (c : Change) → event.body ≡ body.Changed key version c
-    → role_fits Role.Cart (steps_at 0 t.before) (body.Changed key version c) ≡ true
-cart-changed h lawful event t below = changed_fits h lawful 0 0 (omega arith) (λ key version c. refl) changes-0 refl event t below
+pub cart-changed : (h : Histories) → IsLawful h → (event : Event) → (t : TookAt h cart_node event) → FitsBelow h t.clock → (key : ProductKey) (version : ℕ) (c : Change) → event.body ≡ body.Changed key version c
+    → role_fits Role.Cart (steps_at cart_node t.before) (body.Changed key version c) ≡ true
+cart-changed h lawful event t below = changed_fits h lawful cart_node 0 (omega arith) (λ key version c. refl) changes-0 refl event t below
 
-pub stock-changed : (h : Histories) → IsLawful h → (event : Event) → (t : TookAt h 2 event) → FitsBelow h t.clock → (key : ProductKey) (version : ℕ) (c : Change) → event.body ≡ body.Changed key version c
-    → role_fits Role.Stock (steps_at 2 t.before) (body.Changed key version c) ≡ true
-stock-changed h lawful event t below = changed_fits h lawful 2 1 (omega arith) (λ key version c. refl) (λ steps run. refl) refl event t below
+pub stock-changed : (h : Histories) → IsLawful h → (event : Event) → (t : TookAt h stock_node event) → FitsBelow h t.clock → (key : ProductKey) (version : ℕ) (c : Change) → event.body ≡ body.Changed key version c
+    → role_fits Role.Stock (steps_at stock_node t.before) (body.Changed key version c) ≡ true
+stock-changed h lawful event t below = changed_fits h lawful stock_node 1 (omega arith) (λ key version c. refl) (λ steps run. refl) refl event t below

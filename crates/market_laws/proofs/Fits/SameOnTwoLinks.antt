@@ -1,5 +1,5 @@
--- The same body on two links: an invoice goes on link 6 before it goes on link 5, and a payment on links 9 and 12 before it goes
--- on link 10 (invoice-twin, paid-twin-9, paid-twin-12); the event on the later link counts the other in its past.
+-- The same body on two links: an invoice goes to sellers before it goes to payments, and a payment to orders and to sellers before
+-- it goes to shipments (invoice-twin, paid-twin-9, paid-twin-12); the event on the later link counts the other in its past.
 use Rattle.std.proofs.Common.{◌≡◌, ℕ, ◌<◌, ◌≤◌, Bool, true, false, List, [], ◌∷◌, ◌++◌, Option, Some, None, slice_index, inl, inr, refl, ap, sym, ◌∙◌, subst, arith}
 use Rattle.std.specs.List.{list_any}
 use Rattle.market_amounts.specs.declared.keys.RequestId.{RequestId}
@@ -97,7 +97,7 @@ one_invoice b y (inl e) = ap (λ (s : Sending). s.1) e
 one_invoice b y (inr (inl e)) = ap (λ (s : Sending). s.1) e
 one_invoice b y (inr (inr never)) = absurd never
 
--- an invoice on link 5 stands after the same on link 6
+-- an invoice to payments stands after the same to sellers
 invoice_leads : (s : OrderSums) (b : Body) (front : List Sending) (link : Link) (c : Body) (back : List Sending) → order_rows s b ≡ front ++ (link, c) ∷ back → link ≡ ORDER_TO_PAYMENT → Leads 6 c front
 invoice_leads s (body.Asked request) front link c back is on = absurd (absent (order_asked s request.id request.ask) front (link, c) back ORDER_TO_PAYMENT is on (quiet_order s request.id request.ask))
 invoice_leads s (body.StockConfirmed checkout customer lines) front link c back is on =
@@ -109,7 +109,7 @@ invoice_leads s (body.Failed checkout customer rule) front link c back is on = a
 invoice_leads s (body.Shipped checkout) front link c back is on = absurd (absent (order_rows s (body.Shipped checkout)) front (link, c) back ORDER_TO_PAYMENT is on refl)
 invoice_leads s other front link c back is on = absurd (no_place front (link, c) back is)
 
--- a payment on link 10 stands after the same on link k
+-- a payment to shipments stands after the same on link k
 abbrev PaidLead : ℕ → List Sending → Type 0
 PaidLead k rows = (front : List Sending) (link : Link) (c : Body) (back : List Sending) → rows ≡ front ++ (link, c) ∷ back → link ≡ PAYMENT_TO_SHIPMENT → Leads k c front
 
@@ -153,7 +153,7 @@ leads_12 : (s : PaymentSums) (b : Body) → PaidLead 12 (payment_rows s b)
 leads_12 = paid_leads 12 (λ b. (PAYMENT_TO_STOCK, b) ∷ (PAYMENT_TO_CUSTOMER, b) ∷ []) (λ b. (PAYMENT_TO_ORDER, b) ∷ (PAYMENT_TO_SHIPMENT, b) ∷ []) (λ b. refl) (λ b. refl) refl
 
 module _ (h : Histories) (f : Event) (lawful : IsLawful h) where
-  -- of an invoice on link 5
+  -- of an invoice to payments
   pub invoice-twin : MadeAt h order_node f → f.link ≡ ORDER_TO_PAYMENT → Twin h order_node 6 f
   invoice-twin m on =
       twin h order_node f lawful (omega arith) m 6 (omega arith)
@@ -166,7 +166,7 @@ module _ (h : Histories) (f : Event) (lawful : IsLawful h) where
       (λ c. lead (payment_sums (steps_at payment_node c.took.before)) c.event.body c.front f.link f.body c.back
       (sym (answers-payment (steps_at payment_node c.took.before) c.event.link c.event.body) ∙ c.answered) on)
 
-  -- of a payment on link 10
+  -- of a payment to shipments
   pub paid-twin-9 : MadeAt h payment_node f → f.link ≡ PAYMENT_TO_SHIPMENT → Twin h payment_node 9 f
   paid-twin-9 = paid_twin 9 (omega arith) leads_9
 

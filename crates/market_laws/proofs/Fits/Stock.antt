@@ -10,6 +10,7 @@ use Rattle.market_events.specs.declared.bodies.PricedLine.{PricedLine}
 use Rattle.market_events.specs.declared.events.Event.{Event}
 use Rattle.market_events.specs.Carts.{changes_taken, cart_rows, cart_sums}
 use Rattle.market_events.specs.Copies.{copy_of}
+use Rattle.market_events.specs.Links.{cart_node, product_node, stock_node, payment_node}
 use Rattle.market_events.specs.Looks.{is_live}
 use Rattle.market_events.specs.Orders.{is_taken}
 use Rattle.market_events.specs.Products.{product_rows, product_sums}
@@ -45,15 +46,15 @@ use Rattle.market_laws.proofs.Runs.Cart.{sent-le-asked}
 use Rattle.market_laws.proofs.Runs.Payments.{settles-is-invoices, invoices-once, confirmed-invoice, failed-invoice}
 use Rattle.market_laws.proofs.Runs.ToldOnce.{asked-once}
 
--- a checkout comes to stock on link 2 alone
-reserves_alone : (id : RequestId) → ComesAlone 2 (reserves id) CART_TO_STOCK
-reserves_alone id link (body.Reserve checkout customer lines) on into carried own passes = came-on 2 2 (body.Reserve checkout customer lines) (omega arith) tt refl link on into carried
+-- a checkout comes to stock from the cart alone
+reserves_alone : (id : RequestId) → ComesAlone stock_node (reserves id) CART_TO_STOCK
+reserves_alone id link (body.Reserve checkout customer lines) on into carried own passes = came-on stock_node 2 (body.Reserve checkout customer lines) (omega arith) tt refl link on into carried
 reserves_alone id link other on into carried own passes = cc
 
--- and what settles one on link 8 alone
-settles_alone : (id : RequestId) → ComesAlone 2 (settles id) PAYMENT_TO_STOCK
-settles_alone id link (body.Confirmed checkout customer lines total) on into carried own passes = came-on 2 8 (body.Confirmed checkout customer lines total) (omega arith) tt refl link on into carried
-settles_alone id link (body.Failed checkout customer rule) on into carried own passes = came-on 2 8 (body.Failed checkout customer rule) (omega arith) tt refl link on into carried
+-- and what settles one from payments alone
+settles_alone : (id : RequestId) → ComesAlone stock_node (settles id) PAYMENT_TO_STOCK
+settles_alone id link (body.Confirmed checkout customer lines total) on into carried own passes = came-on stock_node 8 (body.Confirmed checkout customer lines total) (omega arith) tt refl link on into carried
+settles_alone id link (body.Failed checkout customer rule) on into carried own passes = came-on stock_node 8 (body.Failed checkout customer rule) (omega arith) tt refl link on into carried
 settles_alone id link other on into carried own passes = cc
 
 -- an invoice of this checkout for this customer
@@ -64,83 +65,83 @@ IsInvoiceFor id customer b = (lines : List PricedLine) × (total : ℕ) × (b �
 abbrev reserved_for : RequestId → ℕ → List PricedLine → Reservation
 reserved_for checkout customer lines = record { checkout = checkout; customer = customer; lines = lines }
 
-module _ (h : Histories) (lawful : IsLawful h) (event : Event) (t : TookAt h 2 event) where
+module _ (h : Histories) (lawful : IsLawful h) (event : Event) (t : TookAt h stock_node event) where
   -- what stock holds is among its reservations
-  is_reserved : (checkout : RequestId) (customer : ℕ) (lines : List PricedLine) → MadeBefore h 2 4 (body.StockConfirmed checkout customer lines) t.clock
-      → Member (reserved_for checkout customer lines) (reservations (steps_at 2 t.before))
+  is_reserved : (checkout : RequestId) (customer : ℕ) (lines : List PricedLine) → MadeBefore h stock_node 4 (body.StockConfirmed checkout customer lines) t.clock
+      → Member (reserved_for checkout customer lines) (reservations (steps_at stock_node t.before))
   is_reserved checkout customer lines m =
-      let steps = steps_at 2 t.before in
+      let steps = steps_at stock_node t.before in
       let here : Member (body.StockConfirmed checkout customer lines) (made_on STOCK_TO_ORDER steps) =
-      subst (λ b. Member b (made_on STOCK_TO_ORDER steps)) m.body_is (made-before h lawful 2 (omega arith) event t m.event 4 m.made m.clock m.on) in
+      subst (λ b. Member b (made_on STOCK_TO_ORDER steps)) m.body_is (made-before h lawful stock_node (omega arith) event t m.event 4 m.made m.clock m.on) in
       gathered-member reservation_in (body.StockConfirmed checkout customer lines) (reserved_for checkout customer lines) (made_on STOCK_TO_ORDER steps) here refl
 
   -- what settles a checkout comes once
-  settled_new : (checkout : RequestId) → event.link ≡ PAYMENT_TO_STOCK → settles checkout event.body ≡ true → is_settled (steps_at 2 t.before) checkout ≡ false
+  settled_new : (checkout : RequestId) → event.link ≡ PAYMENT_TO_STOCK → settles checkout event.body ≡ true → is_settled (steps_at stock_node t.before) checkout ≡ false
   settled_new checkout on passes =
-      let steps = steps_at 4 (journal_at h 4) in
-      let run : IsRunOf Role.Payment steps = steps-run 4 (journal_at h 4) in
-      once-service h 2 event lawful t 8 4 on refl (omega arith) (settles checkout) (omega (arith, settles-is-invoices steps run checkout, invoices-once steps run checkout)) passes (settles_alone checkout)
+      let steps = steps_at payment_node (journal_at h payment_node) in
+      let run : IsRunOf Role.Payment steps = steps-run payment_node (journal_at h payment_node) in
+      once-service h stock_node event lawful t 8 payment_node on refl (omega arith) (settles checkout) (omega (arith, settles-is-invoices steps run checkout, invoices-once steps run checkout)) passes (settles_alone checkout)
 
   module _ (checkout : RequestId) (customer : ℕ) (lines : List PricedLine) (total : ℕ) (is : event.body ≡ body.Confirmed checkout customer lines total) where
     paid_on : event.link ≡ PAYMENT_TO_STOCK
-    paid_on = came h 2 event t (body.Confirmed checkout customer lines total) is (omega arith) tt 8 refl
+    paid_on = came h stock_node event t (body.Confirmed checkout customer lines total) is (omega arith) tt 8 refl
 
-    paid_seen : list_any (is_for_lines checkout customer lines) (reservations (steps_at 2 t.before)) ≡ true
+    paid_seen : list_any (is_for_lines checkout customer lines) (reservations (steps_at stock_node t.before)) ≡ true
     paid_seen =
-        let m = taken-sent h lawful 2 8 4 event t paid_on refl (body.Confirmed checkout customer lines total) is t.clock (omega arith) in
-        let u = sent-origin h lawful 4 8 (body.Confirmed checkout customer lines total) (body.Invoice checkout customer lines total) t.clock (omega arith) m
+        let m = taken-sent h lawful stock_node 8 payment_node event t paid_on refl (body.Confirmed checkout customer lines total) is t.clock (omega arith) in
+        let u = sent-origin h lawful payment_node 8 (body.Confirmed checkout customer lines total) (body.Invoice checkout customer lines total) t.clock (omega arith) m
         (λ steps run here. confirmed-invoice steps run checkout customer lines total here) in
         let held = is_reserved checkout customer lines (held-of-invoice h lawful checkout customer lines total t.clock u) in
-        any_of_member (is_for_lines checkout customer lines) (reserved_for checkout customer lines) (reservations (steps_at 2 t.before)) held
+        any_of_member (is_for_lines checkout customer lines) (reserved_for checkout customer lines) (reservations (steps_at stock_node t.before)) held
         (and_from (same_id checkout checkout && (customer == customer)) (same_lines lines lines)
         (and_from (same_id checkout checkout) (customer == customer) (same_id-self checkout) (eq-eqb customer customer refl)) (same_lines-self lines))
 
-    stock_paid : role_fits Role.Stock (steps_at 2 t.before) (body.Confirmed checkout customer lines total) ≡ true
+    stock_paid : role_fits Role.Stock (steps_at stock_node t.before) (body.Confirmed checkout customer lines total) ≡ true
     stock_paid =
-        and_from (list_any (is_for_lines checkout customer lines) (reservations (steps_at 2 t.before))) (not (is_settled (steps_at 2 t.before) checkout)) paid_seen
+        and_from (list_any (is_for_lines checkout customer lines) (reservations (steps_at stock_node t.before))) (not (is_settled (steps_at stock_node t.before) checkout)) paid_seen
         (ap not (settled_new checkout paid_on (ap (settles checkout) is ∙ same_id-self checkout)))
 
   module _ (checkout : RequestId) (customer : ℕ) (rule : PayRule) (is : event.body ≡ body.Failed checkout customer rule) where
     failed_on : event.link ≡ PAYMENT_TO_STOCK
-    failed_on = came h 2 event t (body.Failed checkout customer rule) is (omega arith) tt 8 refl
+    failed_on = came h stock_node event t (body.Failed checkout customer rule) is (omega arith) tt 8 refl
 
-    failed_seen : list_any (is_for checkout customer) (reservations (steps_at 2 t.before)) ≡ true
+    failed_seen : list_any (is_for checkout customer) (reservations (steps_at stock_node t.before)) ≡ true
     failed_seen =
-        let m = taken-sent h lawful 2 8 4 event t failed_on refl (body.Failed checkout customer rule) is t.clock (omega arith) in
-        let found = sent-origin-some h lawful 4 8 (body.Failed checkout customer rule) t.clock (omega arith) m (IsInvoiceFor checkout customer)
+        let m = taken-sent h lawful stock_node 8 payment_node event t failed_on refl (body.Failed checkout customer rule) is t.clock (omega arith) in
+        let found = sent-origin-some h lawful payment_node 8 (body.Failed checkout customer rule) t.clock (omega arith) m (IsInvoiceFor checkout customer)
         (λ steps run here. let f = failed-invoice steps run checkout customer rule here in (body.Invoice checkout customer f.0 f.1, f.2, (f.0, f.1, refl))) in
         let for = found.2 in
-        let held = is_reserved checkout customer for.0 (held-of-invoice h lawful checkout customer for.0 for.1 t.clock (subst (λ c. TookBefore h 4 t.clock c) for.2 found.1)) in
-        any_of_member (is_for checkout customer) (reserved_for checkout customer for.0) (reservations (steps_at 2 t.before)) held
+        let held = is_reserved checkout customer for.0 (held-of-invoice h lawful checkout customer for.0 for.1 t.clock (subst (λ c. TookBefore h payment_node t.clock c) for.2 found.1)) in
+        any_of_member (is_for checkout customer) (reserved_for checkout customer for.0) (reservations (steps_at stock_node t.before)) held
         (and_from (same_id checkout checkout) (customer == customer) (same_id-self checkout) (eq-eqb customer customer refl))
 
-    stock_failed : role_fits Role.Stock (steps_at 2 t.before) (body.Failed checkout customer rule) ≡ true
+    stock_failed : role_fits Role.Stock (steps_at stock_node t.before) (body.Failed checkout customer rule) ≡ true
     stock_failed =
-        and_from (list_any (is_for checkout customer) (reservations (steps_at 2 t.before))) (not (is_settled (steps_at 2 t.before) checkout)) failed_seen
+        and_from (list_any (is_for checkout customer) (reservations (steps_at stock_node t.before))) (not (is_settled (steps_at stock_node t.before) checkout)) failed_seen
         (ap not (settled_new checkout failed_on (ap (settles checkout) is ∙ same_id-self checkout)))
 
   module _ (checkout : RequestId) (customer : ℕ) (lines : List PricedLine) (is : event.body ≡ body.Reserve checkout customer lines) where
     sent_on : event.link ≡ CART_TO_STOCK
-    sent_on = came h 2 event t (body.Reserve checkout customer lines) is (omega arith) tt 2 refl
+    sent_on = came h stock_node event t (body.Reserve checkout customer lines) is (omega arith) tt 2 refl
 
-    sent_new : is_taken reserves (steps_at 2 t.before) checkout ≡ false
+    sent_new : is_taken reserves (steps_at stock_node t.before) checkout ≡ false
     sent_new =
-        let steps = steps_at 0 (journal_at h 0) in
-        let run : IsRunOf Role.Cart steps = steps-run 0 (journal_at h 0) in
-        once-service h 2 event lawful t 2 0 sent_on refl (omega arith) (reserves checkout) (omega (arith, sent-le-asked steps run checkout, asked-once Role.Cart steps run checkout))
+        let steps = steps_at cart_node (journal_at h cart_node) in
+        let run : IsRunOf Role.Cart steps = steps-run cart_node (journal_at h cart_node) in
+        once-service h stock_node event lawful t 2 cart_node sent_on refl (omega arith) (reserves checkout) (omega (arith, sent-le-asked steps run checkout, asked-once Role.Cart steps run checkout))
         (ap (reserves checkout) is ∙ same_id-self checkout) (reserves_alone checkout)
 
     -- where the cart sent it on
-    sent_made : MadeAt h 0 event
-    sent_made = (took-made-on h lawful 2 event CART_TO_STOCK t sent_on).made
+    sent_made : MadeAt h cart_node event
+    sent_made = (took-made-on h lawful stock_node event CART_TO_STOCK t sent_on).made
 
-    sent_cause : Cause h 0 event sent_made
-    sent_cause = cause h 0 event lawful (omega arith) sent_made
+    sent_cause : Cause h cart_node event sent_made
+    sent_cause = cause h cart_node event lawful (omega arith) sent_made
 
-    sent_live : are_live (copy_of (changes_taken (steps_at 0 sent_cause.took.before))) lines ≡ true
+    sent_live : are_live (copy_of (changes_taken (steps_at cart_node sent_cause.took.before))) lines ≡ true
     sent_live =
         let c = sent_cause in
-        let steps = steps_at 0 c.took.before in
+        let steps = steps_at cart_node c.took.before in
         let look = copy_of (changes_taken steps) in
         let rows : cart_rows (cart_sums steps) c.event.body ≡ c.front ++ (event.link, event.body) ∷ c.back = sym (answers-cart steps c.event.link c.event.body) ∙ c.answered in
         let all = cart-sends-live (cart_sums steps) c.event.body in
@@ -150,47 +151,47 @@ module _ (h : Histories) (lawful : IsLawful h) (event : Event) (t : TookAt h 2 e
 
     module _ (below : FitsBelow h t.clock) where
       -- of a change that the cart took before it sent the checkout on, stock was told before
-      told_before : (b : Body) → TookBefore h 0 sent_cause.took.clock b → ((z : Event) → TookAt h 0 z → z.body ≡ b → z.link ≡ PRODUCT_TO_CART) → Member b (taken_bodies (steps_at 2 t.before))
+      told_before : (b : Body) → TookBefore h cart_node sent_cause.took.clock b → ((z : Event) → TookAt h cart_node z → z.body ≡ b → z.link ≡ PRODUCT_TO_CART) → Member b (taken_bodies (steps_at stock_node t.before))
       told_before b z comes =
           let x = z.event in
           let x_on : x.link ≡ PRODUCT_TO_CART = comes x z.took z.body_is in
-          let x_made : MadeAt h 1 x = (took-made-on h lawful 0 x PRODUCT_TO_CART z.took x_on).made in
-          let c = cause h 1 x lawful (omega arith) x_made in
-          let steps = steps_at 1 c.took.before in
+          let x_made : MadeAt h product_node x = (took-made-on h lawful cart_node x PRODUCT_TO_CART z.took x_on).made in
+          let c = cause h product_node x lawful (omega arith) x_made in
+          let steps = steps_at product_node c.took.before in
           let rows : product_rows (product_sums steps) c.event.body ≡ c.front ++ (PRODUCT_TO_CART, x.body) ∷ c.back =
           sym (answers-product steps c.event.link c.event.body) ∙ c.answered ∙ ap (λ l. c.front ++ (l, x.body) ∷ c.back) x_on in
-          let first = sibling h 1 x x_made c lawful [] PRODUCT_TO_STOCK x.body [] (change-pair (product_sums steps) c.event.body x.body c.front c.back rows) in
+          let first = sibling h product_node x x_made c lawful [] PRODUCT_TO_STOCK x.body [] (change-pair (product_sums steps) c.event.body x.body c.front c.back rows) in
           let y = first.event in
           let taken_first : z.took.clock < event.clock = let one = z.clock_is in let two = sent_cause.clock in omega arith in
-          let counts : y.number ≤ slice_index x.past 1 = past-made h 1 x lawful x_made y 1 (omega arith) first.at first.link_is first.clock in
-          let carries_on : slice_index x.past 1 ≤ slice_index event.past 1 = past-taken h 0 event lawful sent_made x 1 (omega arith) z.took taken_first in
-          let early : TookEarlier h 2 y t.clock = past-ready h 2 event lawful t 1 1 (omega arith) refl y first.at first.link_is (omega arith) in
-          subst (λ c. Member c (taken_bodies (steps_at 2 t.before))) (first.body_is ∙ z.body_is) (took-below h lawful 2 (omega arith) event t below y early.took early.clock)
+          let counts : y.number ≤ slice_index x.past 1 = past-made h product_node x lawful x_made y 1 (omega arith) first.at first.link_is first.clock in
+          let carries_on : slice_index x.past 1 ≤ slice_index event.past 1 = past-taken h cart_node event lawful sent_made x 1 (omega arith) z.took taken_first in
+          let early : TookEarlier h stock_node y t.clock = past-ready h stock_node event lawful t 1 1 (omega arith) refl y first.at first.link_is (omega arith) in
+          subst (λ c. Member c (taken_bodies (steps_at stock_node t.before))) (first.body_is ∙ z.body_is) (took-below h lawful stock_node (omega arith) event t below y early.took early.clock)
 
-      known_line : (line : PricedLine) → Member line lines → is_known (copy_of (changes_taken (steps_at 2 t.before)) line.key) ≡ true
+      known_line : (line : PricedLine) → Member line lines → is_known (copy_of (changes_taken (steps_at stock_node t.before)) line.key) ≡ true
       known_line line here =
           let c = sent_cause in
-          let live : is_live (copy_of (changes_taken (steps_at 0 c.took.before)) line.key) ≡ true =
-          member_of_all (λ (l : PricedLine). is_live (copy_of (changes_taken (steps_at 0 c.took.before)) l.key)) line lines sent_live here in
-          let last = live-changed (taken_bodies (steps_at 0 c.took.before)) line.key live in
+          let live : is_live (copy_of (changes_taken (steps_at cart_node c.took.before)) line.key) ≡ true =
+          member_of_all (λ (l : PricedLine). is_live (copy_of (changes_taken (steps_at cart_node c.took.before)) l.key)) line lines sent_live here in
+          let last = live-changed (taken_bodies (steps_at cart_node c.took.before)) line.key live in
           let b = body.Changed line.key last.0 last.1 in
-          let z = taken-before h 0 c.event lawful c.took b last.2 in
-          known-changed (taken_bodies (steps_at 2 t.before)) line.key last.0 last.1
-          (told_before b z (λ e u same. came h 0 e u b same (omega arith) tt 0 refl))
+          let z = taken-before h cart_node c.event lawful c.took b last.2 in
+          known-changed (taken_bodies (steps_at stock_node t.before)) line.key last.0 last.1
+          (told_before b z (λ e u same. came h cart_node e u b same (omega arith) tt 0 refl))
 
-      stock_sent : role_fits Role.Stock (steps_at 2 t.before) (body.Reserve checkout customer lines) ≡ true
+      stock_sent : role_fits Role.Stock (steps_at stock_node t.before) (body.Reserve checkout customer lines) ≡ true
       stock_sent =
-          and_from (not (is_taken reserves (steps_at 2 t.before) checkout)) (list_all (λ (line : PricedLine). is_known (copy_of (changes_taken (steps_at 2 t.before)) line.key)) lines) (ap not sent_new)
-          (all_of_members (λ (line : PricedLine). is_known (copy_of (changes_taken (steps_at 2 t.before)) line.key)) lines known_line)
+          and_from (not (is_taken reserves (steps_at stock_node t.before) checkout)) (list_all (λ (line : PricedLine). is_known (copy_of (changes_taken (steps_at stock_node t.before)) line.key)) lines) (ap not sent_new)
+          (all_of_members (λ (line : PricedLine). is_known (copy_of (changes_taken (steps_at stock_node t.before)) line.key)) lines known_line)
 
 -- what stock takes fits, but for requests
-pub stock_fits_all : (h : Histories) → IsLawful h → (event : Event) → (t : TookAt h 2 event) → FitsBelow h t.clock → IsNoRequest event.body → role_fits Role.Stock (steps_at 2 t.before) event.body ≡ true
+pub stock_fits_all : (h : Histories) → IsLawful h → (event : Event) → (t : TookAt h stock_node event) → FitsBelow h t.clock → IsNoRequest event.body → role_fits Role.Stock (steps_at stock_node t.before) event.body ≡ true
 stock_fits_all h lawful event t below quiet = by event.body refl quiet
   where
-    by : (b : Body) → event.body ≡ b → IsNoRequest b → role_fits Role.Stock (steps_at 2 t.before) b ≡ true
+    by : (b : Body) → event.body ≡ b → IsNoRequest b → role_fits Role.Stock (steps_at stock_node t.before) b ≡ true
     by (body.Asked request) is quiet = absurd quiet
     by (body.Changed key version c) is quiet = stock-changed h lawful event t below key version c is
     by (body.Reserve checkout customer lines) is quiet = stock_sent h lawful event t checkout customer lines is below
     by (body.Confirmed checkout customer lines total) is quiet = stock_paid h lawful event t checkout customer lines total is
     by (body.Failed checkout customer rule) is quiet = stock_failed h lawful event t checkout customer rule is
-    by other is quiet = absurd (never-came h 2 event t other is (omega arith) tt refl)
+    by other is quiet = absurd (never-came h stock_node event t other is (omega arith) tt refl)

@@ -15,7 +15,7 @@ use Rattle.market_events.specs.declared.requests.Ask.{Ask}
 use Rattle.market_events.specs.declared.requests.Ask.TheVariants as ask
 use Rattle.market_events.specs.AnswerShape.{IsAnswer, AreAnswers}
 use Rattle.market_events.specs.Carried.{carries}
-use Rattle.market_events.specs.Links.{IsLink, sender_of, service_by_ask}
+use Rattle.market_events.specs.Links.{IsLink, sender_of, service_by_ask, cart_node, product_node, stock_node, order_node, payment_node, shipment_node, customer_node, seller_node}
 use Rattle.market_events.specs.Requests.{lane_of}
 use Rattle.market_events.specs.declared.roles.Role.{Role}
 use Rattle.market_events.specs.Services.{node_of, answers, fits, reactions, IsRunOf, most_steps}
@@ -45,7 +45,7 @@ IsOut n (Out.Makes link b) = IsMade n link b
 IsOut n (Out.Answers id reply) = IsLane n
 
 -- each service
-pub by_service : (P : ℕ → Type 0) → P 0 → P 1 → P 2 → P 3 → P 4 → P 5 → P 6 → P 7 → (n : ℕ) → n < services → P n
+pub by_service : (P : ℕ → Type 0) → P cart_node → P product_node → P stock_node → P order_node → P payment_node → P shipment_node → P customer_node → P seller_node → (n : ℕ) → n < services → P n
 by_service P a b c d e f g h zero lt = a
 by_service P a b c d e f g h (suc zero) lt = b
 by_service P a b c d e f g h (suc (suc zero)) lt = c

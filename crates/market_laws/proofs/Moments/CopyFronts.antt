@@ -14,7 +14,7 @@ use Rattle.market_events.specs.declared.links.Link.TheVariants.{Service}
 use Rattle.market_events.specs.Carried.{carries}
 use Rattle.market_events.specs.Carts.{changes_taken}
 use Rattle.market_events.specs.Copies.{ProductChange, copy_of}
-use Rattle.market_events.specs.Links.{IsLink, sender_of, receiver_of, same_link}
+use Rattle.market_events.specs.Links.{IsLink, sender_of, receiver_of, same_link, cart_node, product_node, stock_node}
 use Rattle.market_events.specs.Products.{change_in, changes_made}
 use Rattle.market_events.specs.declared.roles.Role.{Role}
 use Rattle.market_events.specs.Steps.{taken_bodies, made_on}
@@ -77,11 +77,11 @@ module _ (h : Histories) (lawful : IsLawful h) where
 
   pub cart-front : IsPrefixOf (changes_taken (service_steps h Role.Cart)) (changes_made (service_steps h Role.Product))
   cart-front =
-      let front = gathered-front 0 1 0 (omega arith) (omega arith) (omega arith) refl refl change_in changes-cart in
-      (front.0, ap (filter_map change_in) (sym (changes-0 (service_steps h Role.Product) (steps-run 1 (journal_at h 1)))) ∙ front.1)
+      let front = gathered-front cart_node product_node 0 (omega arith) (omega arith) (omega arith) refl refl change_in changes-cart in
+      (front.0, ap (filter_map change_in) (sym (changes-0 (service_steps h Role.Product) (steps-run product_node (journal_at h product_node)))) ∙ front.1)
 
   pub stock-front : IsPrefixOf (changes_taken (service_steps h Role.Stock)) (changes_made (service_steps h Role.Product))
-  stock-front = gathered-front 2 1 1 (omega arith) (omega arith) (omega arith) refl refl change_in changes-stock
+  stock-front = gathered-front stock_node product_node 1 (omega arith) (omega arith) (omega arith) refl refl change_in changes-stock
 
   pub cart-shows : ShowsFirst (tables_at_end h).cart_copy (changes_made (service_steps h Role.Product))
   unfolding tables_at_end

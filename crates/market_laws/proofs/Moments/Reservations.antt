@@ -36,7 +36,7 @@ use Rattle.market_laws.proofs.Runs.Orders.{invoices-is-held}
 use Rattle.market_laws.proofs.Runs.Payments.{settles-is-invoices}
 use Rattle.market_laws.proofs.Views.Counts.{count-taken, any-taken, made-parts}
 
--- what settles a checkout comes into stock on link 8 alone
+-- what settles a checkout comes into stock from payments alone
 settle_stock : (id : RequestId) → Alone stock_node (settles id) 8
 settle_stock id link (body.Confirmed checkout customer lines total) is into carried passes =
     came-on stock_node 8 (body.Confirmed checkout customer lines total) (omega arith) tt refl link is into carried

@@ -1,7 +1,8 @@
 -- Histories in which a checkout's events were made twice, or with no cause, by computation.
 use Rattle.std.proofs.Common.{[], length, inl, refl, ap, arith}
 use Rattle.market_events.specs.declared.events.Event.{Event}
-use Rattle.market_events.specs.declared.links.TheConstants.{CART_TO_STOCK}
+use Rattle.market_events.specs.declared.links.TheConstants.{CART_TO_STOCK, SHIPMENT_TO_CUSTOMER}
+use Rattle.market_events.specs.Links.{cart_node, stock_node}
 use Rattle.market_history.specs.Examples.{id, mug, event}
 use Rattle.market_history.specs.ExamplesCreate.{past}
 use Rattle.market_history.specs.Histories.{journal_at, with_journal}
@@ -15,20 +16,20 @@ use Rattle.market_laws.proofs.Refuted.Refuting.{apart, above, nil_append}
 sent_on : Event
 sent_on = event CART_TO_STOCK 1 1 (past 0 0) (reserve_for 7)
 
-made_there : MadeAt uncaused 0 sent_on
+made_there : MadeAt uncaused cart_node sent_on
 unfolding sent_on journal_at with_journal
 made_there = record { node = omega arith; leaves = refl; before = []; after = []; is = refl }
 
 no_cause : ReservesHaveCauses uncaused (id 5) → ⊥
 unfolding sent_on made_there
-no_cause causes = let c = causes.cause 0 sent_on made_there 7 mugs refl in nil_append c.1.took.before _ c.1.between c.1.is
+no_cause causes = let c = causes.cause cart_node sent_on made_there 7 mugs refl in nil_append c.1.took.before _ c.1.between c.1.is
 
 pub causes : CauseCounterexamples
 unfolding journal_at with_journal all_made_for
 causes = record {
-  uncaused_unlawful = λ lawful. apart 1 0 (ap length (lawful.lawful 0 (omega arith)).blocks) refl;
+  uncaused_unlawful = λ lawful. apart 1 0 (ap length (lawful.lawful cart_node (omega arith)).blocks) refl;
   uncaused_reserve = no_cause;
-  twice_unlawful = λ lawful. apart 2 0 (ap length (lawful.lawful 2 (omega arith)).blocks) refl;
+  twice_unlawful = λ lawful. apart 2 0 (ap length (lawful.lawful stock_node (omega arith)).blocks) refl;
   twice_kept = refl;
   reserves = λ causes. above 2 1 causes.once refl;
   stock_answers = λ causes. above 2 1 causes.confirmed_once refl;
@@ -37,6 +38,6 @@ causes = record {
   shipments = λ causes. above 2 1 causes.once_to_seller refl;
   endings = λ causes. above 2 1 causes.once refl;
   tellings = λ causes. above 2 1 causes.once refl;
-  deliveries = λ causes. above 2 1 (causes.once mug 15 (inl refl)) refl;
+  deliveries = λ causes. above 2 1 (causes.once mug SHIPMENT_TO_CUSTOMER (inl refl)) refl;
   few = λ few. above 15 14 few refl;
 }

@@ -6,6 +6,7 @@ use Rattle.market_events.specs.declared.changes.Look.{Look}
 use Rattle.market_events.specs.declared.changes.Look.TheVariants.{Unknown}
 use Rattle.market_events.specs.declared.events.Entry.{Entry}
 use Rattle.market_events.specs.Copies.{ProductChange, copy_of}
+use Rattle.market_events.specs.Links.{cart_node, product_node, stock_node}
 use Rattle.market_events.specs.Looks.{look_version}
 use Rattle.market_events.specs.Offers.{counts_of, is_ready}
 use Rattle.market_events.specs.Services.{answers, fits, reactions}
@@ -81,7 +82,7 @@ waiting_not_asked e = cc
 pub taking : TakingCounterexamples
 unfolding answers fits reactions counts_of is_ready past_of journal_at with_journal node_outs grow outcome_of play_step merged tables_at_end
 taking = record {
-  nothing_unlawful = λ lawful. apart 2 0 (ap length (lawful.lawful 1 (omega arith)).blocks) refl;
+  nothing_unlawful = λ lawful. apart 2 0 (ap length (lawful.lawful product_node (omega arith)).blocks) refl;
   nothing_fits = λ each. not_true each.0;
   nothing_in_time = λ each. not_true each.0.given;
   never_unlawful = λ lawful. nil_cons to_cart (lawful.matched PRODUCT_TO_CART (omega arith)).0 (lawful.matched PRODUCT_TO_CART (omega arith)).1;
@@ -89,7 +90,7 @@ taking = record {
   never_stock = λ front. nil_cons _ _ front.1;
   never_cart_shows = λ shows. apart 1 0 (ap look_version (none_shown _ shows mug)) refl;
   never_stock_shows = λ shows. apart 1 0 (ap look_version (none_shown _ shows mug)) refl;
-  never_left = λ e. apart 0 1 (ap (λ (h : Histories). length (journal_at h 0)) e) refl;
+  never_left = λ e. apart 0 1 (ap (λ (h : Histories). length (journal_at h cart_node)) e) refl;
   never_done = λ each. never_is_done each.0;
   waiting_unlawful = λ lawful. waiting_not_asked (lawful.lawful 15 (omega arith)).ready.1.1.0.2;
   waiting_left = λ e. apart 2 4 (ap (λ (h : Histories). length (journal_at h 15)) e) refl;
@@ -112,12 +113,12 @@ early_before =
 pub causal : CausalCounterexamples
 unfolding counts_of is_ready past_of journal_at with_journal
 causal = record {
-  forgetful_unlawful = λ lawful. apart 0 1 (ap (λ (past : List ℕ). slice_index past 1) (lawful.lawful 1 (omega arith)).pasts.1.1.0) refl;
+  forgetful_unlawful = λ lawful. apart 0 1 (ap (λ (past : List ℕ). slice_index past 1) (lawful.lawful product_node (omega arith)).pasts.1.1.0) refl;
   forgetful_first = (0, lit< tt, refl);
   forgetful_then = (0, lit< tt, refl);
   forgetful_before = at_sender forgetting (taken 3 asked ∷ made to_stock ∷ []) (made forgetting, made to_lane ∷ [], refl, refl) (1, lit< tt, refl);
   forgetful_counted = λ low. above 1 0 low refl;
-  early_unlawful = λ lawful. not_ready_taken (lawful.lawful 0 (omega arith)).ready.0.3;
+  early_unlawful = λ lawful. not_ready_taken (lawful.lawful cart_node (omega arith)).ready.0.3;
   early_before = early_before;
   early_taken = (taken 11 asks_line, made told_unknown ∷ [], refl, refl);
   early_first = λ here. omega (arith, here.1);
@@ -126,7 +127,7 @@ causal = record {
 pub reserving : ReservedCounterexamples
 unfolding answers fits reactions journal_at with_journal
 reserving = record {
-  nothing_unlawful = λ lawful. apart 1 0 (ap length (lawful.lawful 2 (omega arith)).blocks) refl;
+  nothing_unlawful = λ lawful. apart 1 0 (ap length (lawful.lawful stock_node (omega arith)).blocks) refl;
   nothing_sum = λ e. apart 0 2 e refl;
   nothing_waits = λ each. apart 0 1 each.0 refl;
   nothing_listed = λ e. apart 0 1 e refl;

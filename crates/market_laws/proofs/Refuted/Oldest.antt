@@ -6,7 +6,7 @@ use Rattle.market_events.specs.declared.events.Event.{Event}
 use Rattle.market_events.specs.declared.events.Offer.TheVariants as offers
 use Rattle.market_events.specs.declared.links.Link.{Link}
 use Rattle.market_events.specs.declared.links.Link.TheVariants.{Service, Asked, Told}
-use Rattle.market_events.specs.Links.{IsLink}
+use Rattle.market_events.specs.Links.{IsLink, product_node}
 use Rattle.market_events.specs.Offers.{counts_of, is_ready}
 use Rattle.market_events.specs.Orders.{is_nil}
 use Rattle.market_events.specs.declared.links.TheConstants.{PRODUCT_TO_CART, PRODUCT_TO_STOCK}
@@ -95,12 +95,12 @@ not_ready_comes e = cc
 pub oldest : OldestCounterexamples
 unfolding counts_of is_ready journal_at with_journal outcome_of clock_in
 oldest = record {
-  falling_unlawful = λ lawful. apart 2 0 (ap length (lawful.lawful 1 (omega arith)).blocks) refl;
+  falling_unlawful = λ lawful. apart 2 0 (ap length (lawful.lawful product_node (omega arith)).blocks) refl;
   falling_oldest = λ either. elim either as (λ _. ⊥) [
     | inl settled ↦ apart 2 0 (ap length (settled PRODUCT_TO_CART (omega arith))) refl
     | inr o ↦ no_oldest o.0 o.1 o.2 o.3
   ];
-  twins_unlawful = λ lawful. apart 2 0 (ap length (lawful.lawful 1 (omega arith)).blocks) refl;
+  twins_unlawful = λ lawful. apart 2 0 (ap length (lawful.lawful product_node (omega arith)).blocks) refl;
   twins_oldest = record {
     event = to_cart_at 1 4 0;
     named = refl;
@@ -116,7 +116,7 @@ oldest = record {
     least = least-of twins (event PRODUCT_TO_STOCK 1 4 (past 0 0) created) quiet_twins refl;
   };
   twins_only = λ same. links_apart same.0;
-  alike_unlawful = λ lawful. apart 2 0 (ap length (lawful.lawful 1 (omega arith)).blocks) refl;
+  alike_unlawful = λ lawful. apart 2 0 (ap length (lawful.lawful product_node (omega arith)).blocks) refl;
   alike_oldest = record {
     event = to_cart_at 1 2 1;
     named = refl;
@@ -125,7 +125,7 @@ oldest = record {
     least = least-of alike (to_cart_at 1 2 1) quiet_alike refl;
   };
   alike_found = λ e. apart 1 2 (ap clock_in e) refl;
-  ahead_unlawful = λ lawful. apart 1 0 (ap length (lawful.lawful 1 (omega arith)).blocks) refl;
+  ahead_unlawful = λ lawful. apart 1 0 (ap length (lawful.lawful product_node (omega arith)).blocks) refl;
   ahead_oldest = record {
     event = to_cart_at 1 1 5;
     named = refl;

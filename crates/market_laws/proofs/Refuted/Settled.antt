@@ -6,6 +6,7 @@ use Rattle.market_events.specs.declared.bodies.Body.{Body}
 use Rattle.market_events.specs.declared.events.Entry.{Entry}
 use Rattle.market_events.specs.declared.links.TheConstants.{PRODUCT_TO_CART}
 use Rattle.market_events.specs.declared.requests.Ask.TheVariants as ask
+use Rattle.market_events.specs.Links.{cart_node, product_node}
 use Rattle.market_events.specs.WellFormed.{IsRequest}
 use Rattle.market_events.specs.Orders.{is_of}
 use Rattle.market_events.specs.Stocks.{reservations}
@@ -77,7 +78,7 @@ pub settling : SettledCounterexamples
 unfolding answers fits reactions counts_of is_ready past_of journal_at with_journal node_outs grow play_step acts_of tables_at_end book
 settling = record {
   waiting_lawful = play_keeps no_histories (give 1 create ∷ []) nothing_lawful (creates, tt);
-  waiting_unsettled = λ settled. apart 1 0 (ap length (settled (Asked 7 1) (omega arith, omega arith))) refl;
+  waiting_unsettled = λ settled. apart 1 0 (ap length (settled (Asked 7 product_node) (omega arith, omega arith))) refl;
   waiting_kept = inl refl;
   waiting_idle = λ e. not_true (sym e);
   waiting_answered = λ e. not_true e;
@@ -87,14 +88,14 @@ settling = record {
   forgotten_idle = λ e. not_true (sym e);
   forgotten_answered = λ e. not_true e;
   undecided_lawful = play_keeps no_histories (give 5 (ask.Checkout 7) ∷ []) nothing_lawful (checks_out, tt);
-  undecided_unsettled = λ settled. apart 1 0 (ap length (settled (Asked 7 0) (omega arith, omega arith))) refl;
+  undecided_unsettled = λ settled. apart 1 0 (ap length (settled (Asked 7 cart_node) (omega arith, omega arith))) refl;
   undecided_kept = refl;
   undecided_decided = λ decided. unanswered undecided (id 5) refl decided;
   unordered_unlawful = λ lawful. apart 0 1 (ap (λ (parts : List Part). length (filter_map made_by parts)) (lawful.lawful 15 (omega arith)).blocks) refl;
   unordered_settled = none_unordered;
   unordered_kept = refl;
   unordered_decided = λ decided. unreserved whole_unordered (id 5) 1950 refl refl decided;
-  untold_lawful = play_keeps no_histories (give 1 create ∷ offer (Asked 7 1) 1 ∷ []) nothing_lawful (creates, (tt, tt));
+  untold_lawful = play_keeps no_histories (give 1 create ∷ offer (Asked 7 product_node) 1 ∷ []) nothing_lawful (creates, (tt, tt));
   untold_unsettled = λ settled. apart 1 0 (ap length (settled PRODUCT_TO_CART (omega arith))) refl;
   untold_book = λ same. apart 0 1 (ap look_version (same.cart_copy mug)) refl;
   never_settled = none_made;

@@ -122,7 +122,7 @@ abbrev IsSentBy : Body → Body → Type 0
 IsSentBy (body.Reserve checkout customer lines) b = b ≡ body.Asked (record { id = checkout; ask = ask.Checkout customer })
 IsSentBy other b = ⊥
 
--- what is made on link 2 is for a request for a checkout
+-- what is made to stock is for a request for a checkout
 sent_by : (s : CartSums) (b made : Body) → on 2 (cart_rows s b) ≡ made ∷ [] → IsSentBy made b
 sent_by s (body.Asked request) made is = asked request.id request.ask is
   where

@@ -57,7 +57,7 @@ order_told-is steps run id = told-is-asked Role.Order id (order_makes (λ made b
     each s (body.Asked request) here = asked s request.id request.ask here
     each s other here = refl
 
--- the same goes on links 5 and 6
+-- the same goes to payments and to sellers
 pub invoices-6 : (steps : List Step) → IsRunOf Role.Order steps → made_on ORDER_TO_PAYMENT steps ≡ made_on ORDER_TO_SELLER steps
 invoices-6 steps run = same_made Role.Order (on 5) (on 6) (joining-on 5) (joining-on 6) (order_makes (λ made b. on 5 made ≡ on 6 made) each) steps run
   where
@@ -138,14 +138,14 @@ ends-once steps run id = either (is_taken fails steps id) refl (is_taken ships s
     either true failed false unshipped = omega (arith, ends-is steps run id, fails-once steps run id, count-none (ships id) (taken_bodies steps) unshipped)
     either false unfailed s is = omega (arith, ends-is steps run id, ships-once steps run id, count-none (fails id) (taken_bodies steps) unfailed)
 
--- what orders make on links 5 and 7, by what they took, where the totals are these
+-- what orders make to payments and to the cart, by what they took, where the totals are these
 abbrev IsOrderOf : (RequestId → ℕ) → Body → Body → Type 0
 IsOrderOf total (body.Invoice checkout customer lines sum) b = (b ≡ body.StockConfirmed checkout customer lines) × (sum ≡ total_of lines)
 IsOrderOf total (body.Ended checkout (ending.Undone rule)) b = (customer : ℕ) × (b ≡ body.Failed checkout customer rule)
 IsOrderOf total (body.Ended checkout (ending.Whole sum)) b = (b ≡ body.Shipped checkout) × (sum ≡ total checkout)
 IsOrderOf total other b = ⊥
 
--- on link 5, and on link 7
+-- to payments, and to the cart
 invoice_of : (s : OrderSums) (b made : Body) → on 5 (order_rows s b) ≡ made ∷ [] → IsOrderOf s.total made b
 invoice_of s (body.Asked request) made is = let none = quiet 5 s request.id request.ask in cc
 invoice_of s (body.StockConfirmed checkout customer lines) made is = subst (λ m. IsOrderOf s.total m (body.StockConfirmed checkout customer lines)) (one is) (refl, refl)
@@ -164,7 +164,7 @@ invoice-held steps run checkout customer lines total here =
     let is = invoice_of (order_sums m.before) m.step.body (body.Invoice checkout customer lines total) (sym (ap (on 5) (m.follows.made ∙ answers-order m.before m.step.from m.step.body)) ∙ m.here) in
     (subst (λ b. Member b (taken_bodies steps)) is.0 (member-taken steps m.before m.step m.after m.is), is.1)
 
--- what made an end on link 7
+-- what made an end
 ended_for : (steps : List Step) → IsRunOf Role.Order steps → (made : Body) → Member made (made_on ORDER_TO_CART steps) → (xs : List Body) × (m : MadeOn Role.Order 7 steps xs made) × IsOrderOf (order_total m.before) made m.step.body
 ended_for steps run made here =
     let found = made_by Role.Order 7 steps made run here in

@@ -49,7 +49,7 @@ quiet : (n : ℕ) (s : PaymentSums) (id : RequestId) (a : Ask) → on n (payment
 quiet n s id (ask.Card customer limit) = refl
 quiet n s id other = refl
 
--- the same goes on link 8 as on this one, where it does for a payment and for none
+-- the same goes to stock as on this link, where it does for a payment and for none
 alike : (n : ℕ) → ((b : Body) → on n (confirmed_rows b) ≡ b ∷ []) → ((b : Body) → on n (failed_rows b) ≡ b ∷ []) → (steps : List Step) → IsRunOf Role.Payment steps → made_on PAYMENT_TO_STOCK steps ≡ made_on (Service n) steps
 alike n paid unpaid steps run = same_made Role.Payment (on 8) (on n) (joining-on 8) (joining-on n) (payment_makes (λ made b. on 8 made ≡ on n made) each) steps run
   where
@@ -58,7 +58,7 @@ alike n paid unpaid steps run = same_made Role.Payment (on 8) (on n) (joining-on
     each s (body.Invoice checkout customer lines total) = invoice_cases (λ made. on 8 made ≡ on n made) s checkout customer lines total (sym (paid (body.Confirmed checkout customer lines total))) (λ rule. sym (unpaid (body.Failed checkout customer rule)))
     each s other = refl
 
--- the same goes on links 8, 9, 11 and 12
+-- the same goes to stock, orders, customers and sellers
 pub payments-9 : (steps : List Step) → IsRunOf Role.Payment steps → made_on PAYMENT_TO_STOCK steps ≡ made_on PAYMENT_TO_ORDER steps
 payments-9 = alike 9 (λ b. refl) (λ b. refl)
 
@@ -68,7 +68,7 @@ payments-11 = alike 11 (λ b. refl) (λ b. refl)
 pub payments-12 : (steps : List Step) → IsRunOf Role.Payment steps → made_on PAYMENT_TO_STOCK steps ≡ made_on PAYMENT_TO_SELLER steps
 payments-12 = alike 12 (λ b. refl) (λ b. refl)
 
--- the payments that were made go on link 10
+-- the payments that were made go to shipments
 pub payments-10 : (steps : List Step) → IsRunOf Role.Payment steps → made_on PAYMENT_TO_SHIPMENT steps ≡ filter is_payment (made_on PAYMENT_TO_STOCK steps)
 payments-10 steps run = same_made Role.Payment (on 10) (λ made. filter is_payment (on 8 made)) (joining-on 10) (joining-kind 8 is_payment) (payment_makes (λ made b. on 10 made ≡ filter is_payment (on 8 made)) each) steps run
   where
@@ -107,13 +107,13 @@ invoices-once steps run id = taken_once Role.Payment (invoices id) new steps run
     new before (body.Invoice checkout customer lines total) fit same = ap (λ id. list_any (invoices id) (taken_bodies before)) (sym (same_id-true checkout id same)) ∙ not_true (list_any (invoices checkout) (taken_bodies before)) fit
     new before other fit same = cc
 
--- what settles a checkout on link 8, by the invoice
+-- what settles a checkout to stock, by the invoice
 abbrev IsSettledBy : Body → Body → Type 0
 IsSettledBy (body.Confirmed checkout customer lines total) b = b ≡ body.Invoice checkout customer lines total
 IsSettledBy (body.Failed checkout customer rule) b = (lines : List PricedLine) × (total : ℕ) × (b ≡ body.Invoice checkout customer lines total)
 IsSettledBy other b = ⊥
 
--- what is made on link 8 settles an invoice
+-- what is made to stock settles an invoice
 settled_by : (s : PaymentSums) (b made : Body) → on 8 (payment_rows s b) ≡ made ∷ [] → IsSettledBy made b
 settled_by s (body.Asked request) made is = let none = quiet 8 s request.id request.ask in cc
 settled_by s (body.Invoice checkout customer lines total) made is =
@@ -122,7 +122,7 @@ settled_by s (body.Invoice checkout customer lines total) made is =
     (λ rule unpaid. subst (λ m. IsSettledBy m (body.Invoice checkout customer lines total)) (one unpaid) (lines, total, refl)) is
 settled_by s other made is = cc
 
--- the step that made it on link 8 took the invoice
+-- the step that made it to stock took the invoice
 taken_for : (steps : List Step) (made : Body) → IsRunOf Role.Payment steps → Member made (made_on PAYMENT_TO_STOCK steps) → (b : Body) × IsSettledBy made b × Member b (taken_bodies steps)
 taken_for steps made run here =
     let m = (made_by Role.Payment 8 steps made run here).1 in

@@ -64,7 +64,7 @@ product_told-is steps run id = told-is-asked Role.Product id (product_makes (λ 
     each s (body.Asked request) here = asked_cases (λ made. count_all (tells id) made ≡ cond (same_id request.id id) 1 0) s request.id request.ask (λ elsewhere. absurd (elsewhere here)) (λ r. omega arith) (λ key c r due. omega arith)
     each s other here = refl
 
--- the same goes on links 0 and 1
+-- the same goes to the cart and to stock
 pub changes-0 : (steps : List Step) → IsRunOf Role.Product steps → made_on PRODUCT_TO_CART steps ≡ made_on PRODUCT_TO_STOCK steps
 changes-0 steps run = same_made Role.Product (on 0) (on 1) (joining-on 0) (joining-on 1) (product_makes (λ made b. on 0 made ≡ on 1 made) each) steps run
   where
@@ -77,7 +77,7 @@ abbrev IsNext : ProductSums → Body → Type 0
 IsNext s (body.Changed key version c) = (version ≡ s.version key + 1) × (change_is_due (s.look key) c ≡ true)
 IsNext s other = ⊥
 
--- what is made on link 1 is one
+-- what is made to stock is one
 next_made : (s : ProductSums) (b made : Body) → on 1 (product_rows s b) ≡ made ∷ [] → IsNext s made
 next_made s (body.Asked request) made is =
     asked_cases (λ rows. on 1 rows ≡ made ∷ [] → IsNext s made) s request.id request.ask (λ elsewhere none. cc) (λ r none. cc) (λ key c r due is. subst (λ m. IsNext s m) (one is) (refl, due)) is

@@ -54,7 +54,7 @@ shipment_told-is steps run id = told-is-asked Role.Shipment id (shipment_makes (
     each s (body.Asked request) here = asked_cases (λ made. count_all (tells id) made ≡ cond (same_id request.id id) 1 0) s request.id request.ask (λ elsewhere. absurd (elsewhere here)) (λ r. omega arith) (λ items sellers due. omega arith)
     each s other here = refl
 
--- the same goes on links 13 and 14
+-- the same goes to orders and to sellers
 pub shipments-14 : (steps : List Step) → IsRunOf Role.Shipment steps → made_on SHIPMENT_TO_ORDER steps ≡ made_on SHIPMENT_TO_SELLER steps
 shipments-14 steps run = same_made Role.Shipment (on 13) (on 14) (joining-on 13) (joining-on 14) (shipment_makes (λ made b. on 13 made ≡ on 14 made) each) steps run
   where
@@ -62,7 +62,7 @@ shipments-14 steps run = same_made Role.Shipment (on 13) (on 14) (joining-on 13)
     each s (body.Asked request) = asked_cases (λ made. on 13 made ≡ on 14 made) s request.id request.ask (λ elsewhere. refl) (λ r. refl) (λ items sellers due. refl)
     each s other = refl
 
--- the deliveries go on link 15
+-- the deliveries go to customers
 pub deliveries-15 : (steps : List Step) → IsRunOf Role.Shipment steps → made_on SHIPMENT_TO_CUSTOMER steps ≡ filter is_delivery (made_on SHIPMENT_TO_ORDER steps)
 deliveries-15 steps run = same_made Role.Shipment (on 15) (λ made. filter is_delivery (on 13 made)) (joining-on 15) (joining-kind 13 is_delivery) (shipment_makes (λ made b. on 15 made ≡ filter is_delivery (on 13 made)) each) steps run
   where
@@ -87,7 +87,7 @@ confirms-once steps run id = taken_once Role.Shipment (confirms id) new steps ru
     new before (body.Confirmed checkout customer lines total) fit same = ap (λ id. list_any (confirms id) (taken_bodies before)) (sym (same_id-true checkout id same)) ∙ not_true (list_any (confirms checkout) (taken_bodies before)) fit
     new before other fit same = cc
 
--- what shipments make on link 13, by what they took, where these packages are open
+-- what shipments make to orders, by what they took, where these packages are open
 abbrev IsShipping : List Item → Body → Body → Type 0
 IsShipping waiting (body.Shipped checkout) b = (customer : ℕ) × (lines : List PricedLine) × (total : ℕ) × (b ≡ body.Confirmed checkout customer lines total)
 IsShipping waiting (body.Delivered items) b = items ≡ delivered_of waiting

@@ -1,4 +1,4 @@
--- What holds of stock after a run: each checkout that it was sent is answered once, on link 3 or 4.
+-- What holds of stock after a run: each checkout that it was sent is answered once, to the cart or to orders.
 use Rattle.std.proofs.Common.{◌≡◌, ℕ, ◌+◌, ◌≤◌, Bool, true, false, cond, not, nat_lt, List, [], ◌∷◌, Option, Some, None, count_by, refl, ap, sym, subst, ◌∙◌, arith}
 use Rattle.std.specs.List.{list_any, list_all}
 use Rattle.market_amounts.specs.declared.keys.ProductKey.{ProductKey}
@@ -112,7 +112,7 @@ answer_to n answer s (body.Asked request) made is = let none = quiet n s request
 answer_to n answer s (body.Reserve checkout customer lines) made is = answer checkout customer lines (first_some (line_refusal s) lines) made is
 answer_to n answer s other made is = cc
 
--- on link 4, and on link 3
+-- to orders, and to the cart
 held : (checkout : RequestId) (customer : ℕ) (lines : List PricedLine) (refusal : Option (ProductKey × StockRule)) (made : Body) → on 4 (reserve_rows checkout customer lines refusal) ≡ made ∷ [] → IsAnswerTo made (body.Reserve checkout customer lines)
 held checkout customer lines None made is = subst (λ m. IsAnswerTo m (body.Reserve checkout customer lines)) (one is) refl
 held checkout customer lines (Some refusal) made is = cc

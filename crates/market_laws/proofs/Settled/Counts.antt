@@ -7,6 +7,7 @@ use Rattle.market_events.specs.declared.bodies.Body.{Body}
 use Rattle.market_events.specs.declared.bodies.Body.TheVariants as body
 use Rattle.market_events.specs.declared.links.Link.TheVariants.{Service}
 use Rattle.market_events.specs.Carried.{carries, service_carries}
+use Rattle.market_events.specs.Links.{cart_node, stock_node, order_node, payment_node, shipment_node}
 use Rattle.market_events.specs.Orders.{ships}
 use Rattle.market_events.specs.Requests.{same_id}
 use Rattle.market_events.specs.Services.{ends, invoices, reserves}
@@ -42,35 +43,35 @@ finishes id (body.Ended checkout ending) = same_id checkout id
 finishes id other = false
 
 -- where each kind comes in
-pub reserves-come : (id : RequestId) → ComesOn 2 2 (reserves id)
+pub reserves-come : (id : RequestId) → ComesOn stock_node 2 (reserves id)
 reserves-come id (body.Reserve checkout customer lines) passes = (tt, refl)
 reserves-come id other passes = cc
 
-pub refuses-come : (id : RequestId) → ComesOn 0 3 (refuses id)
+pub refuses-come : (id : RequestId) → ComesOn cart_node 3 (refuses id)
 refuses-come id (body.ReserveFailed checkout key rule) passes = (tt, refl)
 refuses-come id other passes = cc
 
-pub holds-come : (id : RequestId) → ComesOn 3 4 (holds_pieces id)
+pub holds-come : (id : RequestId) → ComesOn order_node 4 (holds_pieces id)
 holds-come id (body.StockConfirmed checkout customer lines) passes = (tt, refl)
 holds-come id other passes = cc
 
-pub invoices-come : (id : RequestId) → ComesOn 4 5 (invoices id)
+pub invoices-come : (id : RequestId) → ComesOn payment_node 5 (invoices id)
 invoices-come id (body.Invoice checkout customer lines total) passes = (tt, refl)
 invoices-come id other passes = cc
 
-pub finishes-come : (id : RequestId) → ComesOn 0 7 (finishes id)
+pub finishes-come : (id : RequestId) → ComesOn cart_node 7 (finishes id)
 finishes-come id (body.Ended checkout ending) passes = (tt, refl)
 finishes-come id other passes = cc
 
-pub fails-come : (id : RequestId) → ComesOn 3 9 (fails id)
+pub fails-come : (id : RequestId) → ComesOn order_node 9 (fails id)
 fails-come id (body.Failed checkout customer rule) passes = (tt, refl)
 fails-come id other passes = cc
 
-pub confirms-come : (id : RequestId) → ComesOn 5 10 (confirms id)
+pub confirms-come : (id : RequestId) → ComesOn shipment_node 10 (confirms id)
 confirms-come id (body.Confirmed checkout customer lines total) passes = (tt, refl)
 confirms-come id other passes = cc
 
-pub ships-come : (id : RequestId) → ComesOn 3 13 (ships id)
+pub ships-come : (id : RequestId) → ComesOn order_node 13 (ships id)
 ships-come id (body.Shipped checkout) passes = (tt, refl)
 ships-come id other passes = cc
 
@@ -110,7 +111,7 @@ module _ (h : Histories) (lawful : IsLawful h) where
       let carried = (made-as h lawful n m.event m.made).carried in
       each b (subst (λ l. carries l b ≡ true) m.on (subst (λ x. carries m.event.link x ≡ true) m.body_is carried)) passes))
 
-  -- on link 3 only refusals end, and on link 7 only ends of orders
+  -- from stock to the cart only refusals end, and from orders to the cart only ends of orders
   on_3 : (id : RequestId) (b : Body) → service_carries STOCK_TO_CART b ≡ true → ends id b ≡ true → refuses id b ≡ true
   on_3 id (body.ReserveFailed checkout key rule) carried passes = passes
   on_3 id (body.Ended checkout ending) carried passes = carried
@@ -129,67 +130,67 @@ module _ (h : Histories) (lawful : IsLawful h) where
   finishes-end id (body.Ended checkout ending) passes = passes
   finishes-end id other passes = cc
 
-  pub refused-3 : (id : RequestId) → count_by (ends id) (made_on STOCK_TO_CART (steps_now 2)) ≡ count_by (refuses id) (made_on STOCK_TO_CART (steps_now 2))
+  pub refused-3 : (id : RequestId) → count_by (ends id) (made_on STOCK_TO_CART (steps_now stock_node)) ≡ count_by (refuses id) (made_on STOCK_TO_CART (steps_now stock_node))
   refused-3 id = omega (
     arith,
-    count-carried 2 (omega arith) 3 (ends id) (refuses id) (on_3 id),
-    count-carried 2 (omega arith) 3 (refuses id) (ends id) (λ b carried. refuses-end id b),
+    count-carried stock_node (omega arith) 3 (ends id) (refuses id) (on_3 id),
+    count-carried stock_node (omega arith) 3 (refuses id) (ends id) (λ b carried. refuses-end id b),
   )
 
-  pub finished-7 : (id : RequestId) → count_by (ends id) (made_on ORDER_TO_CART (steps_now 3)) ≡ count_by (finishes id) (made_on ORDER_TO_CART (steps_now 3))
+  pub finished-7 : (id : RequestId) → count_by (ends id) (made_on ORDER_TO_CART (steps_now order_node)) ≡ count_by (finishes id) (made_on ORDER_TO_CART (steps_now order_node))
   finished-7 id = omega (
     arith,
-    count-carried 3 (omega arith) 7 (ends id) (finishes id) (on_7 id),
-    count-carried 3 (omega arith) 7 (finishes id) (ends id) (λ b carried. finishes-end id b),
+    count-carried order_node (omega arith) 7 (ends id) (finishes id) (on_7 id),
+    count-carried order_node (omega arith) 7 (finishes id) (ends id) (λ b carried. finishes-end id b),
   )
 
   module _ (settled : IsSettled h) (id : RequestId) where
     -- what was sent on is held, or was refused
-    pub sent-on : count_by (holds_pieces id) (made_on STOCK_TO_ORDER (steps_now 2)) + count_by (ends id) (made_on STOCK_TO_CART (steps_now 2)) ≡ count_by (reserves id) (made_on CART_TO_STOCK (steps_now 0))
+    pub sent-on : count_by (holds_pieces id) (made_on STOCK_TO_ORDER (steps_now stock_node)) + count_by (ends id) (made_on STOCK_TO_CART (steps_now stock_node)) ≡ count_by (reserves id) (made_on CART_TO_STOCK (steps_now cart_node))
     sent-on =
-        answered-is (steps_now 2) (steps-run 2 (journal_at h 2)) id
-        ∙ count-made h lawful settled 2 0 2 (omega arith) (omega arith) (omega arith) refl refl (reserves id) (reserves-come id)
+        answered-is (steps_now stock_node) (steps-run stock_node (journal_at h stock_node)) id
+        ∙ count-made h lawful settled stock_node cart_node 2 (omega arith) (omega arith) (omega arith) refl refl (reserves id) (reserves-come id)
 
     -- orders took what is held
-    pub held-orders : count_by (holds_pieces id) (taken_bodies (steps_now 3)) ≡ count_by (holds_pieces id) (made_on STOCK_TO_ORDER (steps_now 2))
-    held-orders = count-made h lawful settled 3 2 4 (omega arith) (omega arith) (omega arith) refl refl (holds_pieces id) (holds-come id)
+    pub held-orders : count_by (holds_pieces id) (taken_bodies (steps_now order_node)) ≡ count_by (holds_pieces id) (made_on STOCK_TO_ORDER (steps_now stock_node))
+    held-orders = count-made h lawful settled order_node stock_node 4 (omega arith) (omega arith) (omega arith) refl refl (holds_pieces id) (holds-come id)
 
     -- and invoiced it
-    pub held-invoiced : count_by (invoices id) (made_on ORDER_TO_PAYMENT (steps_now 3)) ≡ count_by (holds_pieces id) (made_on STOCK_TO_ORDER (steps_now 2))
-    held-invoiced = invoices-is-held (steps_now 3) (steps-run 3 (journal_at h 3)) id ∙ held-orders
+    pub held-invoiced : count_by (invoices id) (made_on ORDER_TO_PAYMENT (steps_now order_node)) ≡ count_by (holds_pieces id) (made_on STOCK_TO_ORDER (steps_now stock_node))
+    held-invoiced = invoices-is-held (steps_now order_node) (steps-run order_node (journal_at h order_node)) id ∙ held-orders
 
     -- so it was paid for, or was not
-    pub held-settled : count_by (confirms id) (made_on PAYMENT_TO_STOCK (steps_now 4)) + count_by (fails id) (made_on PAYMENT_TO_STOCK (steps_now 4)) ≡ count_by (holds_pieces id) (made_on STOCK_TO_ORDER (steps_now 2))
-    held-settled = sym (settles-parts id (made_on PAYMENT_TO_STOCK (steps_now 4))) ∙ settles-is-invoices (steps_now 4) (steps-run 4 (journal_at h 4)) id
-        ∙ count-made h lawful settled 4 3 5 (omega arith) (omega arith) (omega arith) refl refl (invoices id) (invoices-come id) ∙ held-invoiced
+    pub held-settled : count_by (confirms id) (made_on PAYMENT_TO_STOCK (steps_now payment_node)) + count_by (fails id) (made_on PAYMENT_TO_STOCK (steps_now payment_node)) ≡ count_by (holds_pieces id) (made_on STOCK_TO_ORDER (steps_now stock_node))
+    held-settled = sym (settles-parts id (made_on PAYMENT_TO_STOCK (steps_now payment_node))) ∙ settles-is-invoices (steps_now payment_node) (steps-run payment_node (journal_at h payment_node)) id
+        ∙ count-made h lawful settled payment_node order_node 5 (omega arith) (omega arith) (omega arith) refl refl (invoices id) (invoices-come id) ∙ held-invoiced
 
     -- orders took each failure, and a shipment for each payment
-    pub failed-orders : count_by (fails id) (taken_bodies (steps_now 3)) ≡ count_by (fails id) (made_on PAYMENT_TO_STOCK (steps_now 4))
+    pub failed-orders : count_by (fails id) (taken_bodies (steps_now order_node)) ≡ count_by (fails id) (made_on PAYMENT_TO_STOCK (steps_now payment_node))
     failed-orders =
-        count-made h lawful settled 3 4 9 (omega arith) (omega arith) (omega arith) refl refl (fails id) (fails-come id)
-        ∙ ap (count_by (fails id)) (sym (payments-9 (steps_now 4) (steps-run 4 (journal_at h 4))))
+        count-made h lawful settled order_node payment_node 9 (omega arith) (omega arith) (omega arith) refl refl (fails id) (fails-come id)
+        ∙ ap (count_by (fails id)) (sym (payments-9 (steps_now payment_node) (steps-run payment_node (journal_at h payment_node))))
 
-    pub paid-shipments : count_by (confirms id) (taken_bodies (steps_now 5)) ≡ count_by (confirms id) (made_on PAYMENT_TO_STOCK (steps_now 4))
+    pub paid-shipments : count_by (confirms id) (taken_bodies (steps_now shipment_node)) ≡ count_by (confirms id) (made_on PAYMENT_TO_STOCK (steps_now payment_node))
     paid-shipments =
-        count-made h lawful settled 5 4 10 (omega arith) (omega arith) (omega arith) refl refl (confirms id) (confirms-come id)
-        ∙ ap (count_by (confirms id)) (payments-10 (steps_now 4) (steps-run 4 (journal_at h 4))) ∙ count-kept (confirms id) is_payment (confirms-payment id) (made_on PAYMENT_TO_STOCK (steps_now 4))
+        count-made h lawful settled shipment_node payment_node 10 (omega arith) (omega arith) (omega arith) refl refl (confirms id) (confirms-come id)
+        ∙ ap (count_by (confirms id)) (payments-10 (steps_now payment_node) (steps-run payment_node (journal_at h payment_node))) ∙ count-kept (confirms id) is_payment (confirms-payment id) (made_on PAYMENT_TO_STOCK (steps_now payment_node))
 
-    pub shipped-orders : count_by (ships id) (taken_bodies (steps_now 3)) ≡ count_by (confirms id) (made_on PAYMENT_TO_STOCK (steps_now 4))
+    pub shipped-orders : count_by (ships id) (taken_bodies (steps_now order_node)) ≡ count_by (confirms id) (made_on PAYMENT_TO_STOCK (steps_now payment_node))
     shipped-orders =
-        count-made h lawful settled 3 5 13 (omega arith) (omega arith) (omega arith) refl refl (ships id) (ships-come id)
-        ∙ shipped-is (steps_now 5) (steps-run 5 (journal_at h 5)) id ∙ paid-shipments
+        count-made h lawful settled order_node shipment_node 13 (omega arith) (omega arith) (omega arith) refl refl (ships id) (ships-come id)
+        ∙ shipped-is (steps_now shipment_node) (steps-run shipment_node (journal_at h shipment_node)) id ∙ paid-shipments
 
     -- orders ended what is held
-    pub ended-held : count_by (ends id) (made_on ORDER_TO_CART (steps_now 3)) ≡ count_by (holds_pieces id) (made_on STOCK_TO_ORDER (steps_now 2))
-    ended-held = omega (arith, ends-is (steps_now 3) (steps-run 3 (journal_at h 3)) id, failed-orders, shipped-orders, held-settled)
+    pub ended-held : count_by (ends id) (made_on ORDER_TO_CART (steps_now order_node)) ≡ count_by (holds_pieces id) (made_on STOCK_TO_ORDER (steps_now stock_node))
+    ended-held = omega (arith, ends-is (steps_now order_node) (steps-run order_node (journal_at h order_node)) id, failed-orders, shipped-orders, held-settled)
 
     -- the cart took each refusal, and each end
-    pub refused-cart : count_by (refuses id) (taken_bodies (steps_now 0)) ≡ count_by (ends id) (made_on STOCK_TO_CART (steps_now 2))
-    refused-cart = count-made h lawful settled 0 2 3 (omega arith) (omega arith) (omega arith) refl refl (refuses id) (refuses-come id) ∙ sym (refused-3 id)
+    pub refused-cart : count_by (refuses id) (taken_bodies (steps_now cart_node)) ≡ count_by (ends id) (made_on STOCK_TO_CART (steps_now stock_node))
+    refused-cart = count-made h lawful settled cart_node stock_node 3 (omega arith) (omega arith) (omega arith) refl refl (refuses id) (refuses-come id) ∙ sym (refused-3 id)
 
-    pub finished-cart : count_by (finishes id) (taken_bodies (steps_now 0)) ≡ count_by (ends id) (made_on ORDER_TO_CART (steps_now 3))
-    finished-cart = count-made h lawful settled 0 3 7 (omega arith) (omega arith) (omega arith) refl refl (finishes id) (finishes-come id) ∙ sym (finished-7 id)
+    pub finished-cart : count_by (finishes id) (taken_bodies (steps_now cart_node)) ≡ count_by (ends id) (made_on ORDER_TO_CART (steps_now order_node))
+    finished-cart = count-made h lawful settled cart_node order_node 7 (omega arith) (omega arith) (omega arith) refl refl (finishes id) (finishes-come id) ∙ sym (finished-7 id)
 
     -- the cart took as many ends as it sent on
-    pub ended-sent : count_by (ends id) (taken_bodies (steps_now 0)) ≡ count_by (reserves id) (made_on CART_TO_STOCK (steps_now 0))
-    ended-sent = omega (arith, ends-parts id (taken_bodies (steps_now 0)), refused-cart, finished-cart, ended-held, sent-on)
+    pub ended-sent : count_by (ends id) (taken_bodies (steps_now cart_node)) ≡ count_by (reserves id) (made_on CART_TO_STOCK (steps_now cart_node))
+    ended-sent = omega (arith, ends-parts id (taken_bodies (steps_now cart_node)), refused-cart, finished-cart, ended-held, sent-on)

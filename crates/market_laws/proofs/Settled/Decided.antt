@@ -13,6 +13,7 @@ use Rattle.market_events.specs.declared.replies.Reply.TheVariants as reply
 use Rattle.market_events.specs.declared.replies.UndoneRule.{UndoneRule}
 use Rattle.market_events.specs.declared.replies.UndoneRule.TheVariants as undone
 use Rattle.market_events.specs.Carts.{undone_by_stock, reply_to_ending}
+use Rattle.market_events.specs.Links.{cart_node, stock_node, order_node}
 use Rattle.market_events.specs.Orders.{order_total}
 use Rattle.market_events.specs.Steps.{taken_bodies, made_on}
 use Rattle.market_history.specs.Checkouts.{IsWhole, IsUndone, IsNotOrdered, IsCancelled, IsLeftBy, IsDecided, is_kept_checkout}
@@ -35,12 +36,12 @@ use Rattle.market_laws.proofs.Settled.WholePayments.{paid-8, paid-9, paid-10, pa
 
 module _ (h : Histories) (lawful : IsLawful h) (settled : IsSettled h) (c : RequestId) where
   -- it is held and paid for
-  is_whole : (total : ℕ) → reply_at h c ≡ Some (reply.Whole total) → Counts h lawful c 1 1 0 → total ≡ order_total (steps_now h lawful 3) c → IsWhole h c total
+  is_whole : (total : ℕ) → reply_at h c ≡ Some (reply.Whole total) → Counts h lawful c 1 1 0 → total ≡ order_total (steps_now h lawful order_node) c → IsWhole h c total
   is_whole total is n total_is =
       let p = payment-of h lawful settled c n in
       record {
         reply = is;
-        reserved = count-held c (made_on STOCK_TO_ORDER (steps_now h lawful 2)) ∙ n.held_is;
+        reserved = count-held c (made_on STOCK_TO_ORDER (steps_now h lawful stock_node)) ∙ n.held_is;
         sold = stock-paid h lawful settled c ∙ n.paid_is;
         not_released = stock-failed h lawful settled c ∙ n.failed_is;
         order_total = sym total_is;
@@ -89,7 +90,7 @@ module _ (h : Histories) (lawful : IsLawful h) (settled : IsSettled h) (c : Requ
   by_stock key stock.Gone is n = inr (undone.Gone key, stopped (undone.Gone key) is n (λ left. left))
   by_stock key stock.Short is n = inr (undone.Short key, stopped (undone.Short key) is n (λ left. left))
 
-  by_end : (end : Ending) → reply_at h c ≡ Some (reply_to_ending end) → Member (body.Ended c end) (taken_bodies (steps_now h lawful 0)) → IsDecided h c
+  by_end : (end : Ending) → reply_at h c ≡ Some (reply_to_ending end) → Member (body.Ended c end) (taken_bodies (steps_now h lawful cart_node)) → IsDecided h c
   by_end (ending.Whole total) is here = let whole = counts-whole h lawful settled c total here in inl (total, is_whole total is whole.0 whole.1)
   by_end (ending.Undone pay.NoCard) is here = inr (undone.NoCard, unpaid undone.NoCard is (counts-failed h lawful settled c pay.NoCard here) (λ left. left))
   by_end (ending.Undone pay.OverLimit) is here = inr (undone.OverLimit, unpaid undone.OverLimit is (counts-failed h lawful settled c pay.OverLimit here) (λ left. left))

@@ -12,7 +12,7 @@ use Rattle.market_events.specs.declared.events.Event.{Event}
 use Rattle.market_events.specs.declared.links.Link.TheVariants.{Asked, Told}
 use Rattle.market_events.specs.declared.replies.Reply.{Reply}
 use Rattle.market_events.specs.declared.requests.Request.{Request}
-use Rattle.market_events.specs.Links.{lane_node, service_by_ask, same_link}
+use Rattle.market_events.specs.Links.{lane_node, service_by_ask, same_link, cart_node, product_node, stock_node, order_node, payment_node, shipment_node, customer_node, seller_node}
 use Rattle.market_events.specs.Requests.{lane_of}
 use Rattle.market_events.specs.declared.roles.Role.{Role}
 use Rattle.market_events.specs.Services.{node_of, asks}
@@ -75,16 +75,16 @@ module _ (h : Histories) (lawful : IsLawful h) (settled : IsSettled h) where
   pub told-each : (id : RequestId) (s : ℕ) → s < services → count_by (tells id) (bodies_made (steps_now h lawful s)) ≡ count_by (asks id) (taken_bodies (steps_now h lawful s))
   told-each id s lt =
       by_service (λ s. count_by (tells id) (bodies_made (steps_now h lawful s)) ≡ count_by (asks id) (taken_bodies (steps_now h lawful s))) cart
-      (told-is Role.Product (λ e. cc) (steps_now h lawful 1) (steps-run 1 (journal_at h 1)) id)
-      (told-is Role.Stock (λ e. cc) (steps_now h lawful 2) (steps-run 2 (journal_at h 2)) id)
-      (told-is Role.Order (λ e. cc) (steps_now h lawful 3) (steps-run 3 (journal_at h 3)) id)
-      (told-is Role.Payment (λ e. cc) (steps_now h lawful 4) (steps-run 4 (journal_at h 4)) id)
-      (told-is Role.Shipment (λ e. cc) (steps_now h lawful 5) (steps-run 5 (journal_at h 5)) id)
-      (told-is Role.Customer (λ e. cc) (steps_now h lawful 6) (steps-run 6 (journal_at h 6)) id)
-      (told-is Role.Seller (λ e. cc) (steps_now h lawful 7) (steps-run 7 (journal_at h 7)) id) s lt
+      (told-is Role.Product (λ e. cc) (steps_now h lawful product_node) (steps-run product_node (journal_at h product_node)) id)
+      (told-is Role.Stock (λ e. cc) (steps_now h lawful stock_node) (steps-run stock_node (journal_at h stock_node)) id)
+      (told-is Role.Order (λ e. cc) (steps_now h lawful order_node) (steps-run order_node (journal_at h order_node)) id)
+      (told-is Role.Payment (λ e. cc) (steps_now h lawful payment_node) (steps-run payment_node (journal_at h payment_node)) id)
+      (told-is Role.Shipment (λ e. cc) (steps_now h lawful shipment_node) (steps-run shipment_node (journal_at h shipment_node)) id)
+      (told-is Role.Customer (λ e. cc) (steps_now h lawful customer_node) (steps-run customer_node (journal_at h customer_node)) id)
+      (told-is Role.Seller (λ e. cc) (steps_now h lawful seller_node) (steps-run seller_node (journal_at h seller_node)) id) s lt
     where
-      cart : count_by (tells id) (bodies_made (steps_now h lawful 0)) ≡ count_by (asks id) (taken_bodies (steps_now h lawful 0))
-      cart = omega (arith, told-sent-is (steps_now h lawful 0) (steps-run 0 (journal_at h 0)) id, ended-sent h lawful settled id)
+      cart : count_by (tells id) (bodies_made (steps_now h lawful cart_node)) ≡ count_by (asks id) (taken_bodies (steps_now h lawful cart_node))
+      cart = omega (arith, told-sent-is (steps_now h lawful cart_node) (steps-run cart_node (journal_at h cart_node)) id, ended-sent h lawful settled id)
 
   module _ (lane : ℕ) (lt : lane < 16) (r : Request) (kept : Member r (kept_by h lane)) where
     -- it is of this lane

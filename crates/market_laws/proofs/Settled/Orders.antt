@@ -5,6 +5,7 @@ use Rattle.std.specs.List.{list_any}
 use Rattle.market_amounts.specs.declared.keys.RequestId.{RequestId}
 use Rattle.market_events.specs.declared.replies.OrderStatus.{OrderStatus}
 use Rattle.market_events.specs.declared.replies.OrderStatus.TheVariants as status
+use Rattle.market_events.specs.Links.{order_node}
 use Rattle.market_events.specs.Orders.{checkouts_taken, is_of, is_nil, is_taken, open_lines, order_status, ships}
 use Rattle.market_events.specs.Steps.{taken_bodies}
 use Rattle.market_events.specs.Stocks.{confirms, fails}
@@ -46,25 +47,25 @@ none_by true failed closed shipped paid h = cc
 
 module _ (h : Histories) (lawful : IsLawful h) (settled : IsSettled h) (c : RequestId) where
   -- it has an order where stock holds it
-  has_order : {paid failed : ℕ} → Counts h lawful c 1 paid failed → list_any (is_of c) (checkouts_taken (steps_now h lawful 3)) ≡ true
+  has_order : {paid failed : ℕ} → Counts h lawful c 1 paid failed → list_any (is_of c) (checkouts_taken (steps_now h lawful order_node)) ≡ true
   has_order n =
-      has_order-held c (taken_bodies (steps_now h lawful 3)) ∙ any-counted (holds_pieces c) (taken_bodies (steps_now h lawful 3)) (omega (arith, held-orders h lawful settled c, n.held_is))
+      has_order-held c (taken_bodies (steps_now h lawful order_node)) ∙ any-counted (holds_pieces c) (taken_bodies (steps_now h lawful order_node)) (omega (arith, held-orders h lawful settled c, n.held_is))
 
-  pub order-whole : Counts h lawful c 1 1 0 → (order_status (steps_now h lawful 3) c ≡ Some status.Shipped) ⊎ (order_status (steps_now h lawful 3) c ≡ Some status.Delivered)
+  pub order-whole : Counts h lawful c 1 1 0 → (order_status (steps_now h lawful order_node) c ≡ Some status.Shipped) ⊎ (order_status (steps_now h lawful order_node) c ≡ Some status.Delivered)
   order-whole n =
-      let steps = steps_now h lawful 3 in
+      let steps = steps_now h lawful order_node in
       let unfailed = any-none (fails c) (taken_bodies steps) (omega (arith, failed-orders h lawful settled c, n.failed_is)) in
       let shipped = any-counted (ships c) (taken_bodies steps) (omega (arith, shipped-orders h lawful settled c, n.paid_is)) in
       whole_by (list_any (is_of c) (checkouts_taken steps)) (is_taken fails steps c) (is_nil (open_lines steps c)) (is_taken ships steps c) (is_taken confirms steps c) (has_order n) unfailed shipped
 
-  pub order-cancelled : Counts h lawful c 1 0 1 → order_status (steps_now h lawful 3) c ≡ Some status.Cancelled
+  pub order-cancelled : Counts h lawful c 1 0 1 → order_status (steps_now h lawful order_node) c ≡ Some status.Cancelled
   order-cancelled n =
-      let steps = steps_now h lawful 3 in
+      let steps = steps_now h lawful order_node in
       let failed = any-counted (fails c) (taken_bodies steps) (omega (arith, failed-orders h lawful settled c, n.failed_is)) in
       cancelled_by (list_any (is_of c) (checkouts_taken steps)) (is_taken fails steps c) (is_nil (open_lines steps c)) (is_taken ships steps c) (is_taken confirms steps c) (has_order n) failed
 
-  pub order-none : Counts h lawful c 0 0 0 → order_status (steps_now h lawful 3) c ≡ None
+  pub order-none : Counts h lawful c 0 0 0 → order_status (steps_now h lawful order_node) c ≡ None
   order-none n =
-      let steps = steps_now h lawful 3 in
+      let steps = steps_now h lawful order_node in
       let none = has_order-held c (taken_bodies steps) ∙ any-none (holds_pieces c) (taken_bodies steps) (omega (arith, held-orders h lawful settled c, n.held_is)) in
       none_by (list_any (is_of c) (checkouts_taken steps)) (is_taken fails steps c) (is_nil (open_lines steps c)) (is_taken ships steps c) (is_taken confirms steps c) none

@@ -11,6 +11,7 @@ use Rattle.market_events.specs.declared.bodies.PayRule.{PayRule}
 use Rattle.market_events.specs.declared.links.TheConstants.{ORDER_TO_PAYMENT, PAYMENT_TO_STOCK}
 use Rattle.market_events.specs.declared.replies.Reply.TheVariants as reply
 use Rattle.market_events.specs.declared.replies.UndoneRule.TheVariants as undone
+use Rattle.market_events.specs.Links.{cart_node, stock_node, order_node, payment_node, seller_node}
 use Rattle.market_events.specs.Orders.{checkouts_taken, is_of}
 use Rattle.market_events.specs.declared.roles.Role.{Role}
 use Rattle.market_events.specs.Steps.{Sending, taken_bodies, made_in, made_on}
@@ -38,24 +39,24 @@ use Rattle.market_laws.proofs.Settled.Links.{ComesOn}
 use Rattle.market_laws.proofs.Settled.Ways.{counted}
 
 -- where these bodies come in
-held-orders : ComesOn 3 4 (λ b. is_some (reservation_in b))
+held-orders : ComesOn order_node 4 (λ b. is_some (reservation_in b))
 held-orders (body.StockConfirmed checkout customer lines) passes = (tt, refl)
 held-orders other passes = cc
 
-invoice-payments : ComesOn 4 5 (λ b. is_some (invoice_in b))
+invoice-payments : ComesOn payment_node 5 (λ b. is_some (invoice_in b))
 invoice-payments (body.Invoice checkout customer lines total) passes = (tt, refl)
 invoice-payments other passes = cc
 
-invoice-sellers : ComesOn 7 6 (λ b. is_some (invoice_in b))
+invoice-sellers : ComesOn seller_node 6 (λ b. is_some (invoice_in b))
 invoice-sellers (body.Invoice checkout customer lines total) passes = (tt, refl)
 invoice-sellers other passes = cc
 
-end-cart : ComesOn 0 7 (λ b. is_some (ended_unpaid b))
+end-cart : ComesOn cart_node 7 (λ b. is_some (ended_unpaid b))
 end-cart (body.Ended checkout (ending.Undone rule)) passes = (tt, refl)
 end-cart (body.Ended checkout (ending.Whole total)) passes = cc
 end-cart other passes = cc
 
-failed-orders : ComesOn 3 9 (λ b. is_some (failed_in b))
+failed-orders : ComesOn order_node 9 (λ b. is_some (failed_in b))
 failed-orders (body.Failed checkout customer rule) passes = (tt, refl)
 failed-orders other passes = cc
 
@@ -90,26 +91,26 @@ module _ (h : Histories) where
 
 module _ (h : Histories) (lawful : IsLawful h) (settled : IsSettled h) where
   pub orders-held : checkouts_taken (service_steps h Role.Order) ≡ held h
-  orders-held = gathered-made h lawful settled 3 2 4 (omega arith) (omega arith) (omega arith) refl refl reservation_in held-orders
+  orders-held = gathered-made h lawful settled order_node stock_node 4 (omega arith) (omega arith) (omega arith) refl refl reservation_in held-orders
 
   orders-invoiced : filter_map invoice_in (made_on ORDER_TO_PAYMENT (service_steps h Role.Order)) ≡ held h
-  orders-invoiced = invoices-held (service_steps h Role.Order) (steps-run 3 (journal_at h 3)) ∙ orders-held
+  orders-invoiced = invoices-held (service_steps h Role.Order) (steps-run order_node (journal_at h order_node)) ∙ orders-held
 
   payments-held : filter_map invoice_in (taken_bodies (service_steps h Role.Payment)) ≡ held h
-  payments-held = gathered-made h lawful settled 4 3 5 (omega arith) (omega arith) (omega arith) refl refl invoice_in invoice-payments ∙ orders-invoiced
+  payments-held = gathered-made h lawful settled payment_node order_node 5 (omega arith) (omega arith) (omega arith) refl refl invoice_in invoice-payments ∙ orders-invoiced
 
   pub sellers-held : invoices_taken (service_steps h Role.Seller) ≡ held h
   sellers-held =
-      gathered-made h lawful settled 7 3 6 (omega arith) (omega arith) (omega arith) refl refl invoice_in invoice-sellers
-      ∙ ap (filter_map invoice_in) (sym (invoices-6 (service_steps h Role.Order) (steps-run 3 (journal_at h 3)))) ∙ orders-invoiced
+      gathered-made h lawful settled seller_node order_node 6 (omega arith) (omega arith) (omega arith) refl refl invoice_in invoice-sellers
+      ∙ ap (filter_map invoice_in) (sym (invoices-6 (service_steps h Role.Order) (steps-run order_node (journal_at h order_node)))) ∙ orders-invoiced
 
   pub settled-held : AreSettled (held h) (settling h)
-  settled-held = subst (λ rs. AreSettled rs (settling h)) payments-held (payments-settled (service_steps h Role.Payment) (steps-run 4 (journal_at h 4)))
+  settled-held = subst (λ rs. AreSettled rs (settling h)) payments-held (payments-settled (service_steps h Role.Payment) (steps-run payment_node (journal_at h payment_node)))
 
   -- a checkout is settled once at most
   pub settled-few : (id : RequestId) → count_by (confirms id) (settling h) + count_by (fails id) (settling h) ≤ 1
   settled-few id =
-      let run = steps-run 4 (journal_at h 4) in
+      let run = steps-run payment_node (journal_at h payment_node) in
       omega (arith, settles-parts id (settling h), settles-is-invoices (service_steps h Role.Payment) run id, invoices-once (service_steps h Role.Payment) run id)
 
   -- one that failed was not paid
@@ -126,7 +127,7 @@ module _ (h : Histories) (lawful : IsLawful h) (settled : IsSettled h) where
   -- a reservation is the one of its checkout
   pub held-alone : (r : Reservation) → Member r (held h) → filter (is_of r.checkout) (held h) ≡ r ∷ []
   held-alone r here =
-      let few = reserved_once (service_steps h Role.Stock) (steps-run 2 (journal_at h 2)) r.checkout in
+      let few = reserved_once (service_steps h Role.Stock) (steps-run stock_node (journal_at h stock_node)) r.checkout in
       let some = counted (is_of r.checkout) r (held h) here (same_id-self r.checkout) in
       single (is_of r.checkout) r (held h) (omega arith) here (same_id-self r.checkout)
 
@@ -136,11 +137,11 @@ module _ (h : Histories) (lawful : IsLawful h) (settled : IsSettled h) where
   -- the carts told those that failed, in this order
   told-failed : filter_map told_unpaid (made_in (service_steps h Role.Cart)) ≡ filter_map failed_in (settling h)
   told-failed =
-      told-unpaid (service_steps h Role.Cart) (steps-run 0 (journal_at h 0))
-      ∙ gathered-made h lawful settled 0 3 7 (omega arith) (omega arith) (omega arith) refl refl ended_unpaid end-cart
-      ∙ ends-failed (service_steps h Role.Order) (steps-run 3 (journal_at h 3))
-      ∙ gathered-made h lawful settled 3 4 9 (omega arith) (omega arith) (omega arith) refl refl failed_in failed-orders
-      ∙ ap (filter_map failed_in) (sym (payments-9 (service_steps h Role.Payment) (steps-run 4 (journal_at h 4))))
+      told-unpaid (service_steps h Role.Cart) (steps-run cart_node (journal_at h cart_node))
+      ∙ gathered-made h lawful settled cart_node order_node 7 (omega arith) (omega arith) (omega arith) refl refl ended_unpaid end-cart
+      ∙ ends-failed (service_steps h Role.Order) (steps-run order_node (journal_at h order_node))
+      ∙ gathered-made h lawful settled order_node payment_node 9 (omega arith) (omega arith) (omega arith) refl refl failed_in failed-orders
+      ∙ ap (filter_map failed_in) (sym (payments-9 (service_steps h Role.Payment) (steps-run payment_node (journal_at h payment_node))))
 
   pub unpaid-held : flat_map (unpaid_of h) (undone_at h) ≡ filter (λ (r : Reservation). not (was_paid h r)) (held h)
   unpaid-held =

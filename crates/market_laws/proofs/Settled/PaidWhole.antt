@@ -11,7 +11,7 @@ use Rattle.market_events.specs.declared.bodies.PricedLine.{PricedLine}
 use Rattle.market_events.specs.declared.requests.Ask.TheVariants as ask
 use Rattle.market_events.specs.declared.requests.Request.{Request}
 use Rattle.market_events.specs.Carts.{reply_to_ending}
-use Rattle.market_events.specs.Links.{lane_node}
+use Rattle.market_events.specs.Links.{lane_node, cart_node, stock_node, order_node}
 use Rattle.market_events.specs.Requests.{lane_of}
 use Rattle.market_events.specs.declared.roles.Role.{Role}
 use Rattle.market_events.specs.Services.{reserves}
@@ -77,8 +77,8 @@ module _ (h : Histories) (lawful : IsLawful h) where
 
       given : Member request requests
       given =
-          let took = took-there h lawful 0 (omega arith) (body.Asked request) (subst (λ l. Member (body.Asked request) l) (all-taken h lawful 0 (omega arith)) here) in
-          given_there h lawful 0 took.0 took.1 request took.2
+          let took = took-there h lawful cart_node (omega arith) (body.Asked request) (subst (λ l. Member (body.Asked request) l) (all-taken h lawful cart_node (omega arith)) here) in
+          given_there h lawful cart_node took.0 took.1 request took.2
 
       by : (o : Option Request) → with_id c requests ≡ o → is_some o ≡ true → asks_checkout o ≡ true
       by None is found = cc
@@ -94,9 +94,9 @@ module _ (h : Histories) (lawful : IsLawful h) where
     -- it was reserved, and asked for
     asked_for : Member (body.Asked (record { id = c; ask = ask.Checkout customer })) (taken_bodies (service_steps h Role.Cart))
     asked_for =
-        let stock = held-reserve (service_steps h Role.Stock) (steps-run 2 (journal_at h 2)) c customer lines (payment-traced h lawful settled c customer lines total here).held in
-        sent-asked (service_steps h Role.Cart) (steps-run 0 (journal_at h 0)) c customer lines
-        (member-made h lawful settled 2 0 2 (omega arith) (omega arith) (omega arith) refl refl (reserves c) (reserves-come c) (body.Reserve c customer lines) (same_id-self c) stock)
+        let stock = held-reserve (service_steps h Role.Stock) (steps-run stock_node (journal_at h stock_node)) c customer lines (payment-traced h lawful settled c customer lines total here).held in
+        sent-asked (service_steps h Role.Cart) (steps-run cart_node (journal_at h cart_node)) c customer lines
+        (member-made h lawful settled stock_node cart_node 2 (omega arith) (omega arith) (omega arith) refl refl (reserves c) (reserves-come c) (body.Reserve c customer lines) (same_id-self c) stock)
 
     paid_once : 1 ≤ count_by (confirms c) (settling h)
     paid_once = counted (confirms c) (body.Confirmed c customer lines total) (settling h) here (same_id-self c)
@@ -117,7 +117,7 @@ module _ (h : Histories) (lawful : IsLawful h) where
         by (ended end is there) = by_end end is there
 
     pub paid-total : total ≡ total_of lines
-    paid-total = (invoice-held (service_steps h Role.Order) (steps-run 3 (journal_at h 3)) c customer lines total (payment-traced h lawful settled c customer lines total here).invoiced).1
+    paid-total = (invoice-held (service_steps h Role.Order) (steps-run order_node (journal_at h order_node)) c customer lines total (payment-traced h lawful settled c customer lines total here).invoiced).1
 
   module _ (settled : IsSettled h) where
     -- all that were paid are whole

@@ -85,13 +85,13 @@ for_cart other is = let no : ⊥ = cc in absurd no
 module _ (h : Histories) (lawful : IsLawful h) (settled : IsSettled h) (c : RequestId) where
   -- its reply, and why
   pub data Replied : Type 0 where
-    early : (rule : UndoneRule) → IsEarly rule → reply_at h c ≡ Some (reply.Undone rule) → count_by (reserves c) (made_on CART_TO_STOCK (steps_now h lawful 0)) ≡ 0 → Replied
-    refused : (key : ProductKey) (rule : StockRule) → reply_at h c ≡ Some (reply.Undone (undone_by_stock rule key)) → Member (body.ReserveFailed c key rule) (taken_bodies (steps_now h lawful 0)) → Replied
-    ended : (end : Ending) → reply_at h c ≡ Some (reply_to_ending end) → Member (body.Ended c end) (taken_bodies (steps_now h lawful 0)) → Replied
+    early : (rule : UndoneRule) → IsEarly rule → reply_at h c ≡ Some (reply.Undone rule) → count_by (reserves c) (made_on CART_TO_STOCK (steps_now h lawful cart_node)) ≡ 0 → Replied
+    refused : (key : ProductKey) (rule : StockRule) → reply_at h c ≡ Some (reply.Undone (undone_by_stock rule key)) → Member (body.ReserveFailed c key rule) (taken_bodies (steps_now h lawful cart_node)) → Replied
+    ended : (end : Ending) → reply_at h c ≡ Some (reply_to_ending end) → Member (body.Ended c end) (taken_bodies (steps_now h lawful cart_node)) → Replied
 
   module _ (kept : is_kept_checkout h c ≡ true) where
     -- the cart took its request
-    pub cart-asked : (k : KeptRequest h c) → Member (body.Asked k.request) (taken_bodies (steps_now h lawful 0))
+    pub cart-asked : (k : KeptRequest h c) → Member (body.Asked k.request) (taken_bodies (steps_now h lawful cart_node))
     cart-asked k =
         subst (λ s. Member (body.Asked k.request) (taken_bodies (steps_now h lawful s))) (for_cart k.request.ask k.asks)
         (kept-taken h lawful settled (lane_of c) (lane_of-small c) k.request k.kept)
@@ -101,7 +101,7 @@ module _ (h : Histories) (lawful : IsLawful h) (settled : IsSettled h) (c : Requ
     has_reply k = subst (λ i. is_some (reply_at h i) ≡ true) k.id_is (kept-answered h lawful settled (lane_of c) (lane_of-small c) k.request k.kept)
 
     -- the cart told it
-    cart_told : (r : Reply) → reply_at h c ≡ Some r → Member (body.Told c r) (bodies_made (steps_now h lawful 0))
+    cart_told : (r : Reply) → reply_at h c ≡ Some r → Member (body.Told c r) (bodies_made (steps_now h lawful cart_node))
     cart_told r is =
         let lane = lane_of c in
         let node = lane_node lane in
@@ -111,15 +111,15 @@ module _ (h : Histories) (lawful : IsLawful h) (settled : IsSettled h) (c : Requ
         let made = took-made h lawful node took.0 took.1 in
         let on = ((tellings-caused h lawful c kept).cause (sender_of took.0.link) took.0 made.made r took.2).0 in
         let at = took-made-on h lawful node took.0 (Told cart_node lane) took.1 on in
-        made-all (Told cart_node lane) (body.Told c r) (made_in (steps_now h lawful 0))
-        (subst (λ b. Member b (filter_map (body_on (Told cart_node lane)) (made_in (steps_now h lawful 0)))) took.2 (made-whole-on h lawful 0 (omega arith) took.0 (Told cart_node lane) at.made on))
+        made-all (Told cart_node lane) (body.Told c r) (made_in (steps_now h lawful cart_node))
+        (subst (λ b. Member b (filter_map (body_on (Told cart_node lane)) (made_in (steps_now h lawful cart_node)))) took.2 (made-whole-on h lawful cart_node (omega arith) took.0 (Told cart_node lane) at.made on))
 
     -- its request is no other request
-    no_other : (k : KeptRequest h c) (request : Request) → request.id ≡ c → is_checkout request.ask ≡ false → Member (body.Asked request) (taken_bodies (steps_now h lawful 0)) → ⊥
+    no_other : (k : KeptRequest h c) (request : Request) → request.id ≡ c → is_checkout request.ask ≡ false → Member (body.Asked request) (taken_bodies (steps_now h lawful cart_node)) → ⊥
     no_other k request same other here =
-        let taken = taken_bodies (steps_now h lawful 0) in
+        let taken = taken_bodies (steps_now h lawful cart_node) in
         let one : body.Asked request ≡ body.Asked k.request =
-        only_one (asks c) (body.Asked request) (body.Asked k.request) taken (asked-once Role.Cart (steps_now h lawful 0) (steps-run 0 (journal_at h 0)) c) here (cart-asked k)
+        only_one (asks c) (body.Asked request) (body.Asked k.request) taken (asked-once Role.Cart (steps_now h lawful cart_node) (steps-run cart_node (journal_at h cart_node)) c) here (cart-asked k)
         (ap (λ i. same_id i c) same ∙ same_id-self c) (ap (λ i. same_id i c) k.id_is ∙ same_id-self c) in
         let alike : request ≡ k.request = cc in
         let is = ap (λ (q : Request). is_checkout q.ask) alike ∙ k.asks in
@@ -131,7 +131,7 @@ module _ (h : Histories) (lawful : IsLawful h) (settled : IsSettled h) (c : Requ
         k : KeptRequest h c
         k = kept-request h c kept
 
-        why : (r : Reply) → reply_at h c ≡ Some r → ToldFor (steps_now h lawful 0) c r → Replied
+        why : (r : Reply) → reply_at h c ≡ Some r → ToldFor (steps_now h lawful cart_node) c r → Replied
         why r is (at_once rule reply_is soon asked unsent) = early rule soon (is ∙ ap Some reply_is) unsent
         why r is (by_stock key rule reply_is here) = refused key rule (is ∙ ap Some reply_is) here
         why r is (by_end end reply_is here) = ended end (is ∙ ap Some reply_is) here
@@ -139,4 +139,4 @@ module _ (h : Histories) (lawful : IsLawful h) (settled : IsSettled h) (c : Requ
 
         by : (o : Option Reply) → reply_at h c ≡ o → is_some o ≡ true → Replied
         by None is some = let no : ⊥ = cc in absurd no
-        by (Some r) is some = why r is (told-for c r (steps_now h lawful 0) (steps-run 0 (journal_at h 0)) (cart_told r is))
+        by (Some r) is some = why r is (told-for c r (steps_now h lawful cart_node) (steps-run cart_node (journal_at h cart_node)) (cart_told r is))

@@ -8,6 +8,7 @@ use Rattle.market_amounts.specs.declared.keys.RequestId.{RequestId}
 use Rattle.market_events.specs.declared.links.TheConstants.{STOCK_TO_ORDER, ORDER_TO_PAYMENT}
 use Rattle.market_events.specs.declared.links.TheConstants.{PAYMENT_TO_STOCK}
 use Rattle.market_events.specs.declared.replies.OrderStatus.TheVariants as status
+use Rattle.market_events.specs.Links.{stock_node, order_node, payment_node, seller_node}
 use Rattle.market_events.specs.Orders.{is_item_of, is_of, is_taken, items_taken, ships}
 use Rattle.market_events.specs.Sellers.{SellerChange, entries_at, status_at}
 use Rattle.market_events.specs.Services.{invoices}
@@ -50,37 +51,37 @@ none_passes c test rs none = false_from (list_any (λ (r : Reservation). is_of c
 
 module _ (h : Histories) (lawful : IsLawful h) (settled : IsSettled h) (c : RequestId) where
   -- what is not held is not reserved
-  pub unreserved : Counts h lawful c 0 0 0 → list_any (λ (r : Reservation). is_of c r && not (is_settled (steps_now h lawful 2) r.checkout)) (reservations (steps_now h lawful 2)) ≡ false
-  unreserved n = false_from (list_any (λ (r : Reservation). is_of c r && not (is_settled (steps_now h lawful 2) r.checkout)) (reservations (steps_now h lawful 2))) refuted
+  pub unreserved : Counts h lawful c 0 0 0 → list_any (λ (r : Reservation). is_of c r && not (is_settled (steps_now h lawful stock_node) r.checkout)) (reservations (steps_now h lawful stock_node)) ≡ false
+  unreserved n = false_from (list_any (λ (r : Reservation). is_of c r && not (is_settled (steps_now h lawful stock_node) r.checkout)) (reservations (steps_now h lawful stock_node))) refuted
     where
-      refuted : list_any (λ (r : Reservation). is_of c r && not (is_settled (steps_now h lawful 2) r.checkout)) (reservations (steps_now h lawful 2)) ≡ true → false ≡ true
+      refuted : list_any (λ (r : Reservation). is_of c r && not (is_settled (steps_now h lawful stock_node) r.checkout)) (reservations (steps_now h lawful stock_node)) ≡ true → false ≡ true
       refuted any =
-          let rs = reservations (steps_now h lawful 2) in
-          let found = member_of_any (λ (r : Reservation). is_of c r && not (is_settled (steps_now h lawful 2) r.checkout)) rs any in
-          let mine = (and_both (is_of c found.0) (not (is_settled (steps_now h lawful 2) found.0.checkout)) found.2).0 in
-          sym (any-none (is_of c) rs (omega (arith, count-held c (made_on STOCK_TO_ORDER (steps_now h lawful 2)), n.held_is))) ∙ any_of_member (is_of c) found.0 rs found.1 mine
+          let rs = reservations (steps_now h lawful stock_node) in
+          let found = member_of_any (λ (r : Reservation). is_of c r && not (is_settled (steps_now h lawful stock_node) r.checkout)) rs any in
+          let mine = (and_both (is_of c found.0) (not (is_settled (steps_now h lawful stock_node) found.0.checkout)) found.2).0 in
+          sym (any-none (is_of c) rs (omega (arith, count-held c (made_on STOCK_TO_ORDER (steps_now h lawful stock_node)), n.held_is))) ∙ any_of_member (is_of c) found.0 rs found.1 mine
 
   -- nor is what failed
-  pub unreserved-failed : Counts h lawful c 1 0 1 → list_any (λ (r : Reservation). is_of c r && not (is_settled (steps_now h lawful 2) r.checkout)) (reservations (steps_now h lawful 2)) ≡ false
+  pub unreserved-failed : Counts h lawful c 1 0 1 → list_any (λ (r : Reservation). is_of c r && not (is_settled (steps_now h lawful stock_node) r.checkout)) (reservations (steps_now h lawful stock_node)) ≡ false
   unreserved-failed n =
-      let steps = steps_now h lawful 2 in
+      let steps = steps_now h lawful stock_node in
       let failed = any-counted (fails c) (taken_bodies steps) (omega (arith, stock-failed h lawful settled c, n.failed_is)) in
       none_passes c (λ id. not (is_settled steps id)) (reservations steps) (ap not (is_settled-is steps c ∙ or_left (is_taken fails steps c) (is_confirmed steps c) failed))
 
   -- what was not paid for is not sold
-  pub unsold : {held failed : ℕ} → Counts h lawful c held 0 failed → list_any (λ (r : Reservation). is_of c r && is_confirmed (steps_now h lawful 2) r.checkout) (reservations (steps_now h lawful 2)) ≡ false
+  pub unsold : {held failed : ℕ} → Counts h lawful c held 0 failed → list_any (λ (r : Reservation). is_of c r && is_confirmed (steps_now h lawful stock_node) r.checkout) (reservations (steps_now h lawful stock_node)) ≡ false
   unsold n =
-      let steps = steps_now h lawful 2 in
+      let steps = steps_now h lawful stock_node in
       none_passes c (is_confirmed steps) (reservations steps) (any-none (confirms c) (taken_bodies steps) (omega (arith, stock-paid h lawful settled c, n.paid_is)))
 
   -- nor spent
-  pub unspent : {held failed : ℕ} → Counts h lawful c held 0 failed → list_any (confirms c) (made_on PAYMENT_TO_STOCK (steps_now h lawful 4)) ≡ false
-  unspent n = any-none (confirms c) (made_on PAYMENT_TO_STOCK (steps_now h lawful 4)) (omega (arith, n.paid_is))
+  pub unspent : {held failed : ℕ} → Counts h lawful c held 0 failed → list_any (confirms c) (made_on PAYMENT_TO_STOCK (steps_now h lawful payment_node)) ≡ false
+  unspent n = any-none (confirms c) (made_on PAYMENT_TO_STOCK (steps_now h lawful payment_node)) (omega (arith, n.paid_is))
 
   -- what is not held has no entry
   pub entries-none : Counts h lawful c 0 0 0 → (seller : ℕ) → list_any (is_entry_of c) (entries_at (changes_of h seller)) ≡ false
   entries-none n seller =
-      let made = made_on ORDER_TO_PAYMENT (steps_now h lawful 3) in
+      let made = made_on ORDER_TO_PAYMENT (steps_now h lawful order_node) in
       let none = seller-invoices h lawful settled c ∙ none_of (filter (invoices c) made) (length-filter (invoices c) made ∙ held-invoiced h lawful settled c ∙ n.held_is) in
       let count = count-entries h lawful settled c (is_entry_of c) (λ e other. other) seller ∙ ap (λ bs. count_by (is_entry_of c) (flat_map (entries_in seller) bs)) none in
       any-none (is_entry_of c) (entries_at (changes_of h seller)) (omega (arith, count))
@@ -91,18 +92,18 @@ module _ (h : Histories) (lawful : IsLawful h) (settled : IsSettled h) (c : Requ
   entries-cancelled n seller =
       all_of_members (λ (e : SellerChange). not (is_entry_of c e) || is_cancelled (status_at (changes_of h seller) e)) (entries_at (changes_of h seller)) (λ e here. by_test e here)
     where
-      failed : is_taken fails (steps_now h lawful 7) c ≡ true
-      failed = any-counted (fails c) (taken_bodies (steps_now h lawful 7)) (omega (arith, seller-failed h lawful settled c, n.failed_is))
+      failed : is_taken fails (steps_now h lawful seller_node) c ≡ true
+      failed = any-counted (fails c) (taken_bodies (steps_now h lawful seller_node)) (omega (arith, seller-failed h lawful settled c, n.failed_is))
 
       by : (e : SellerChange) → Member e (entries_at (changes_of h seller)) → (b : Bool) → is_entry_of c e ≡ b → (not b || is_cancelled (status_at (changes_of h seller) e)) ≡ true
       by e here false other = refl
       by e here true mine =
-          let steps = steps_now h lawful 7 in
+          let steps = steps_now h lawful seller_node in
           let id = e.checkout in
           let fails_it = ap (is_taken fails steps) (same_id-true id c mine) ∙ failed in
           let cancelled : due steps id e.line.key ≡ status.Cancelled =
           due-is steps id e.line.key true (list_any (is_item_of id e.line.key) (items_taken steps)) (is_taken ships steps id) (is_taken confirms steps id) fails_it refl refl refl in
-          ap is_cancelled (entry-due steps (steps-run 7 (journal_at h 7)) seller e here ∙ ap Some cancelled)
+          ap is_cancelled (entry-due steps (steps-run seller_node (journal_at h seller_node)) seller e here ∙ ap Some cancelled)
 
       by_test : (e : SellerChange) → Member e (entries_at (changes_of h seller)) → (not (is_entry_of c e) || is_cancelled (status_at (changes_of h seller) e)) ≡ true
       by_test e here = by e here (is_entry_of c e) refl

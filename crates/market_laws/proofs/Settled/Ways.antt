@@ -8,6 +8,7 @@ use Rattle.market_events.specs.declared.bodies.Body.TheVariants as body
 use Rattle.market_events.specs.declared.bodies.Ending.TheVariants as ending
 use Rattle.market_events.specs.declared.bodies.PayRule.{PayRule}
 use Rattle.market_events.specs.declared.bodies.StockRule.{StockRule}
+use Rattle.market_events.specs.Links.{cart_node, stock_node, order_node, payment_node}
 use Rattle.market_events.specs.Orders.{order_total, ships}
 use Rattle.market_events.specs.declared.roles.Role.{Role}
 use Rattle.market_events.specs.Services.{reserves}
@@ -35,26 +36,26 @@ counted test x xs here passes = count-some test xs (any_of_member test x xs here
 
 -- how often the checkout is held by stock, paid for, and not paid for
 pub record Counts (h : Histories) (lawful : IsLawful h) (c : RequestId) (held paid failed : ℕ) : Type 0 where
-  pub held_is : count_by (holds_pieces c) (made_on STOCK_TO_ORDER (steps_now h lawful 2)) ≡ held
-  pub paid_is : count_by (confirms c) (made_on PAYMENT_TO_STOCK (steps_now h lawful 4)) ≡ paid
-  pub failed_is : count_by (fails c) (made_on PAYMENT_TO_STOCK (steps_now h lawful 4)) ≡ failed
+  pub held_is : count_by (holds_pieces c) (made_on STOCK_TO_ORDER (steps_now h lawful stock_node)) ≡ held
+  pub paid_is : count_by (confirms c) (made_on PAYMENT_TO_STOCK (steps_now h lawful payment_node)) ≡ paid
+  pub failed_is : count_by (fails c) (made_on PAYMENT_TO_STOCK (steps_now h lawful payment_node)) ≡ failed
 
 module _ (h : Histories) (lawful : IsLawful h) (settled : IsSettled h) (c : RequestId) where
   -- it was sent on once at most
-  sent_few : count_by (reserves c) (made_on CART_TO_STOCK (steps_now h lawful 0)) ≤ 1
-  sent_few = omega (arith, sent-le-asked (steps_now h lawful 0) (steps-run 0 (journal_at h 0)) c, asked-once Role.Cart (steps_now h lawful 0) (steps-run 0 (journal_at h 0)) c)
+  sent_few : count_by (reserves c) (made_on CART_TO_STOCK (steps_now h lawful cart_node)) ≤ 1
+  sent_few = omega (arith, sent-le-asked (steps_now h lawful cart_node) (steps-run cart_node (journal_at h cart_node)) c, asked-once Role.Cart (steps_now h lawful cart_node) (steps-run cart_node (journal_at h cart_node)) c)
 
   -- what was not sent on is not held
-  pub counts-early : count_by (reserves c) (made_on CART_TO_STOCK (steps_now h lawful 0)) ≡ 0 → Counts h lawful c 0 0 0
+  pub counts-early : count_by (reserves c) (made_on CART_TO_STOCK (steps_now h lawful cart_node)) ≡ 0 → Counts h lawful c 0 0 0
   counts-early none =
       let on = sent-on h lawful settled c in
       let held = held-settled h lawful settled c in
       record { held_is = omega (arith, none, on); paid_is = omega (arith, none, on, held); failed_is = omega (arith, none, on, held) }
 
   -- nor is what stock refused
-  pub counts-refused : (key : ProductKey) (rule : StockRule) → Member (body.ReserveFailed c key rule) (taken_bodies (steps_now h lawful 0)) → Counts h lawful c 0 0 0
+  pub counts-refused : (key : ProductKey) (rule : StockRule) → Member (body.ReserveFailed c key rule) (taken_bodies (steps_now h lawful cart_node)) → Counts h lawful c 0 0 0
   counts-refused key rule here =
-      let some = counted (refuses c) (body.ReserveFailed c key rule) (taken_bodies (steps_now h lawful 0)) here (same_id-self c) in
+      let some = counted (refuses c) (body.ReserveFailed c key rule) (taken_bodies (steps_now h lawful cart_node)) here (same_id-self c) in
       let refused = refused-cart h lawful settled c in
       let on = sent-on h lawful settled c in
       let held = held-settled h lawful settled c in
@@ -66,14 +67,14 @@ module _ (h : Histories) (lawful : IsLawful h) (settled : IsSettled h) (c : Requ
       }
 
   -- an end that the cart took was made by orders
-  ended_made : (b : Body) → finishes c b ≡ true → Member b (taken_bodies (steps_now h lawful 0)) → Member b (made_on ORDER_TO_CART (steps_now h lawful 3))
-  ended_made b passes here = member-made h lawful settled 0 3 7 (omega arith) (omega arith) (omega arith) refl refl (finishes c) (finishes-come c) b passes here
+  ended_made : (b : Body) → finishes c b ≡ true → Member b (taken_bodies (steps_now h lawful cart_node)) → Member b (made_on ORDER_TO_CART (steps_now h lawful order_node))
+  ended_made b passes here = member-made h lawful settled cart_node order_node 7 (omega arith) (omega arith) (omega arith) refl refl (finishes c) (finishes-come c) b passes here
 
   -- a checkout that is whole is held and paid for, and its total is its order's
-  pub counts-whole : (total : ℕ) → Member (body.Ended c (ending.Whole total)) (taken_bodies (steps_now h lawful 0)) → Counts h lawful c 1 1 0 × (total ≡ order_total (steps_now h lawful 3) c)
+  pub counts-whole : (total : ℕ) → Member (body.Ended c (ending.Whole total)) (taken_bodies (steps_now h lawful cart_node)) → Counts h lawful c 1 1 0 × (total ≡ order_total (steps_now h lawful order_node) c)
   counts-whole total here =
-      let steps = steps_now h lawful 3 in
-      let whole = whole-shipped steps (steps-run 3 (journal_at h 3)) c total (ended_made (body.Ended c (ending.Whole total)) (same_id-self c) here) in
+      let steps = steps_now h lawful order_node in
+      let whole = whole-shipped steps (steps-run order_node (journal_at h order_node)) c total (ended_made (body.Ended c (ending.Whole total)) (same_id-self c) here) in
       let some = counted (ships c) (body.Shipped c) (taken_bodies steps) whole.0 (same_id-self c) in
       let shipped = shipped-orders h lawful settled c in
       let on = sent-on h lawful settled c in
@@ -88,10 +89,10 @@ module _ (h : Histories) (lawful : IsLawful h) (settled : IsSettled h) (c : Requ
       )
 
   -- one that was undone by payment is held and was not paid for
-  pub counts-failed : (rule : PayRule) → Member (body.Ended c (ending.Undone rule)) (taken_bodies (steps_now h lawful 0)) → Counts h lawful c 1 0 1
+  pub counts-failed : (rule : PayRule) → Member (body.Ended c (ending.Undone rule)) (taken_bodies (steps_now h lawful cart_node)) → Counts h lawful c 1 0 1
   counts-failed rule here =
-      let steps = steps_now h lawful 3 in
-      let undone = undone-failed steps (steps-run 3 (journal_at h 3)) c rule (ended_made (body.Ended c (ending.Undone rule)) (same_id-self c) here) in
+      let steps = steps_now h lawful order_node in
+      let undone = undone-failed steps (steps-run order_node (journal_at h order_node)) c rule (ended_made (body.Ended c (ending.Undone rule)) (same_id-self c) here) in
       let some = counted (fails c) (body.Failed c undone.0 rule) (taken_bodies steps) undone.1 (same_id-self c) in
       let failed = failed-orders h lawful settled c in
       let on = sent-on h lawful settled c in

@@ -10,6 +10,7 @@ use Rattle.market_events.specs.declared.links.TheConstants.{ORDER_TO_PAYMENT}
 use Rattle.market_events.specs.declared.replies.OrderStatus.{OrderStatus}
 use Rattle.market_events.specs.declared.replies.OrderStatus.TheVariants as status
 use Rattle.market_events.specs.Formed.{body_formed, checkout_formed}
+use Rattle.market_events.specs.Links.{order_node, shipment_node, seller_node}
 use Rattle.market_events.specs.Orders.{is_item_of, ships}
 use Rattle.market_events.specs.Sellers.{entries_at, marked, same_entry, status_at}
 use Rattle.market_events.specs.declared.roles.Role.{Role}
@@ -51,20 +52,20 @@ module _ (h : Histories) (lawful : IsLawful h) (settled : IsSettled h) (c : Requ
   invoice = body.Invoice c p.customer p.lines p.total
 
   -- sellers took it, and no other invoice of the checkout
-  invoice_taken : filter (invoices c) (taken_bodies (steps_now h lawful 7)) ≡ invoice ∷ []
+  invoice_taken : filter (invoices c) (taken_bodies (steps_now h lawful seller_node)) ≡ invoice ∷ []
   invoice_taken =
-      let made = made_on ORDER_TO_PAYMENT (steps_now h lawful 3) in
+      let made = made_on ORDER_TO_PAYMENT (steps_now h lawful order_node) in
       let traced = payment-traced h lawful settled c p.customer p.lines p.total p.made in
       seller-invoices h lawful settled c ∙ single (invoices c) invoice made (held-invoiced h lawful settled c ∙ n.held_is) traced.invoiced (same_id-self c)
 
-  invoice_member : Member invoice (taken_bodies (steps_now h lawful 7))
+  invoice_member : Member invoice (taken_bodies (steps_now h lawful seller_node))
   invoice_member =
-      member-filter (invoices c) invoice (taken_bodies (steps_now h lawful 7)) (subst (λ l. Member invoice l) (sym invoice_taken) (inl refl))
+      member-filter (invoices c) invoice (taken_bodies (steps_now h lawful seller_node)) (subst (λ l. Member invoice l) (sym invoice_taken) (inl refl))
 
   -- the keys of its lines rise
   lines_rise : keys_rise p.lines ≡ true
   lines_rise =
-      let formed = member_of_all body_formed invoice (taken_bodies (steps_now h lawful 7)) (taken_formed Role.Seller (steps_now h lawful 7) (steps-run 7 (journal_at h 7))) invoice_member in
+      let formed = member_of_all body_formed invoice (taken_bodies (steps_now h lawful seller_node)) (taken_formed Role.Seller (steps_now h lawful seller_node) (steps-run seller_node (journal_at h seller_node))) invoice_member in
       lines_formed-rise p.lines (checkout_formed-lines c p.customer p.lines (and_both (checkout_formed c p.customer p.lines) (p.total == total_of p.lines) formed).0)
 
   module _ (line : PricedLine) (here : Member line p.lines) where
@@ -79,18 +80,18 @@ module _ (h : Histories) (lawful : IsLawful h) (settled : IsSettled h) (c : Requ
 
     entry_there : Member (entry_for c line) (entries_at (changes_of h line.key.seller))
     entry_there =
-        subst (λ l. Member (entry_for c line) l) (sym (entries-invoiced line.key.seller [] (taken_bodies (steps_now h lawful 7))))
-        (joined-member (entries_in line.key.seller) invoice (entry_for c line) (taken_bodies (steps_now h lawful 7)) invoice_member (marked-member c line p.lines here))
+        subst (λ l. Member (entry_for c line) l) (sym (entries-invoiced line.key.seller [] (taken_bodies (steps_now h lawful seller_node))))
+        (joined-member (entries_in line.key.seller) invoice (entry_for c line) (taken_bodies (steps_now h lawful seller_node)) invoice_member (marked-member c line p.lines here))
 
     -- it is shipped, and delivered where its package is closed
     entry_status : status_at (changes_of h line.key.seller) (entry_for c line) ≡ Some (if is_under_way h c line then status.Shipped else status.Delivered)
     entry_status =
-        let steps = steps_now h lawful 7 in
+        let steps = steps_now h lawful seller_node in
         let unfailed = any-none (fails c) (taken_bodies steps) (omega (arith, seller-failed h lawful settled c, n.failed_is)) in
         let shipped = any-counted (ships c) (taken_bodies steps) (omega (arith, seller-shipped h lawful settled c, n.paid_is)) in
         let paid = any-counted (confirms c) (taken_bodies steps) (omega (arith, seller-paid h lawful settled c, n.paid_is)) in
-        let delivered = list_any (is_item_of c line.key) (items_made (steps_now h lawful 5)) in
-        entry-due steps (steps-run 7 (journal_at h 7)) line.key.seller (entry_for c line) entry_there
+        let delivered = list_any (is_item_of c line.key) (items_made (steps_now h lawful shipment_node)) in
+        entry-due steps (steps-run seller_node (journal_at h seller_node)) line.key.seller (entry_for c line) entry_there
         ∙ ap Some (due-is steps c line.key false delivered true true unfailed (ap (list_any (is_item_of c line.key)) (seller-items h lawful settled)) shipped paid ∙ by delivered)
       where
         by : (d : Bool) → ◌≡◌ {A = OrderStatus} (if d then status.Delivered else status.Shipped) (if not d then status.Shipped else status.Delivered)

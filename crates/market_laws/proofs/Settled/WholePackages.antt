@@ -8,6 +8,7 @@ use Rattle.market_events.specs.declared.bodies.Body.{Body}
 use Rattle.market_events.specs.declared.bodies.Body.TheVariants as body
 use Rattle.market_events.specs.declared.bodies.Item.{Item}
 use Rattle.market_events.specs.declared.bodies.PricedLine.{PricedLine}
+use Rattle.market_events.specs.Links.{stock_node, payment_node, shipment_node}
 use Rattle.market_events.specs.Orders.{is_of}
 use Rattle.market_events.specs.Requests.{same_id}
 use Rattle.market_events.specs.Shipments.{packages_in, packages}
@@ -59,19 +60,19 @@ module _ (h : Histories) (lawful : IsLawful h) (settled : IsSettled h) (c : Requ
     pub customer : ℕ
     pub lines : List PricedLine
     pub total : ℕ
-    pub made : Member (body.Confirmed c customer lines total) (made_on PAYMENT_TO_STOCK (steps_now h lawful 4))
+    pub made : Member (body.Confirmed c customer lines total) (made_on PAYMENT_TO_STOCK (steps_now h lawful payment_node))
 
   pub payment-of : Counts h lawful c 1 1 0 → Payment
   payment-of n =
-      let found = member_of_any (confirms c) (made_on PAYMENT_TO_STOCK (steps_now h lawful 4)) (any-counted (confirms c) (made_on PAYMENT_TO_STOCK (steps_now h lawful 4)) (omega (arith, n.paid_is))) in
+      let found = member_of_any (confirms c) (made_on PAYMENT_TO_STOCK (steps_now h lawful payment_node)) (any-counted (confirms c) (made_on PAYMENT_TO_STOCK (steps_now h lawful payment_node)) (omega (arith, n.paid_is))) in
       by found.0 found.1 found.2
     where
-      by : (b : Body) → Member b (made_on PAYMENT_TO_STOCK (steps_now h lawful 4)) → confirms c b ≡ true → Payment
+      by : (b : Body) → Member b (made_on PAYMENT_TO_STOCK (steps_now h lawful payment_node)) → confirms c b ≡ true → Payment
       by (body.Confirmed checkout customer lines total) here passes = record {
         customer = customer;
         lines = lines;
         total = total;
-        made = subst (λ i. Member (body.Confirmed i customer lines total) (made_on PAYMENT_TO_STOCK (steps_now h lawful 4))) (same_id-true checkout c passes) here;
+        made = subst (λ i. Member (body.Confirmed i customer lines total) (made_on PAYMENT_TO_STOCK (steps_now h lawful payment_node))) (same_id-true checkout c passes) here;
       }
       by other here passes = cc
 
@@ -79,7 +80,7 @@ module _ (h : Histories) (lawful : IsLawful h) (settled : IsSettled h) (c : Requ
     -- stock reserved the lines of the payment
     pub lines-reserved : lines_reserved h c ≡ p.lines
     lines-reserved =
-        let made = made_on STOCK_TO_ORDER (steps_now h lawful 2) in
+        let made = made_on STOCK_TO_ORDER (steps_now h lawful stock_node) in
         let r : Reservation = record { checkout = c; customer = p.customer; lines = p.lines } in
         let here : Member r (filter_map reservation_in made) =
         gathered-member reservation_in (body.StockConfirmed c p.customer p.lines) r made (payment-traced h lawful settled c p.customer p.lines p.total p.made).held refl in
@@ -89,27 +90,27 @@ module _ (h : Histories) (lawful : IsLawful h) (settled : IsSettled h) (c : Requ
         ∙ append-nil (lines_if c r) ∙ mine
 
     -- shipment took this payment of the checkout, and no other
-    payment_taken : filter (confirms c) (taken_bodies (steps_now h lawful 5)) ≡ body.Confirmed c p.customer p.lines p.total ∷ []
+    payment_taken : filter (confirms c) (taken_bodies (steps_now h lawful shipment_node)) ≡ body.Confirmed c p.customer p.lines p.total ∷ []
     payment_taken =
-        let made = made_on PAYMENT_TO_STOCK (steps_now h lawful 4) in
-        filter-made h lawful settled 5 4 10 (omega arith) (omega arith) (omega arith) refl refl (confirms c) (confirms-come c)
-        ∙ ap (filter (confirms c)) (payments-10 (steps_now h lawful 4) (steps-run 4 (journal_at h 4)))
+        let made = made_on PAYMENT_TO_STOCK (steps_now h lawful payment_node) in
+        filter-made h lawful settled shipment_node payment_node 10 (omega arith) (omega arith) (omega arith) refl refl (confirms c) (confirms-come c)
+        ∙ ap (filter (confirms c)) (payments-10 (steps_now h lawful payment_node) (steps-run payment_node (journal_at h payment_node)))
         ∙ filter-kept (confirms c) is_payment (confirms-payment c) made
         ∙ single (confirms c) (body.Confirmed c p.customer p.lines p.total) made n.paid_is p.made (same_id-self c)
 
     -- shipment has a package for each line
-    pub packages-whole : map (λ (i : Item). i.key) (filter (λ (i : Item). same_id i.checkout c) (packages (steps_now h lawful 5))) ≡ map (λ (line : PricedLine). line.key) (lines_reserved h c)
+    pub packages-whole : map (λ (i : Item). i.key) (filter (λ (i : Item). same_id i.checkout c) (packages (steps_now h lawful shipment_node))) ≡ map (λ (line : PricedLine). line.key) (lines_reserved h c)
     packages-whole =
         let mine = λ (b : Body). filter (λ (i : Item). same_id i.checkout c) (packages_in b) in
         ap (map (λ (i : Item). i.key))
-        (filter-joined (λ (i : Item). same_id i.checkout c) packages_in (taken_bodies (steps_now h lawful 5))
-        ∙ joined-passing (confirms c) mine (packages_others c) (taken_bodies (steps_now h lawful 5)) ∙ ap (flat_map mine) payment_taken
+        (filter-joined (λ (i : Item). same_id i.checkout c) packages_in (taken_bodies (steps_now h lawful shipment_node))
+        ∙ joined-passing (confirms c) mine (packages_others c) (taken_bodies (steps_now h lawful shipment_node)) ∙ ap (flat_map mine) payment_taken
         ∙ append-nil (mine (body.Confirmed c p.customer p.lines p.total)) ∙ packages_all c p.customer p.lines p.total)
         ∙ map-map (λ (line : PricedLine). record { checkout = c; customer = p.customer; key = line.key }) (λ (i : Item). i.key) p.lines
         ∙ sym (ap (map (λ (line : PricedLine). line.key)) lines-reserved)
 
   -- what was not paid for has no package
-  pub packages-none : {held failed : ℕ} → Counts h lawful c held 0 failed → list_any (λ (i : Item). same_id i.checkout c) (packages (steps_now h lawful 5)) ≡ false
+  pub packages-none : {held failed : ℕ} → Counts h lawful c held 0 failed → list_any (λ (i : Item). same_id i.checkout c) (packages (steps_now h lawful shipment_node)) ≡ false
   packages-none n =
-      (ShipmentRun-of (steps_now h lawful 5) (steps-run 5 (journal_at h 5))).unpacked c
-      (any-none (confirms c) (taken_bodies (steps_now h lawful 5)) (omega (arith, paid-shipments h lawful settled c, n.paid_is)))
+      (ShipmentRun-of (steps_now h lawful shipment_node) (steps-run shipment_node (journal_at h shipment_node))).unpacked c
+      (any-none (confirms c) (taken_bodies (steps_now h lawful shipment_node)) (omega (arith, paid-shipments h lawful settled c, n.paid_is)))

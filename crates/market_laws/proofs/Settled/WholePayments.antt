@@ -6,6 +6,7 @@ use Rattle.market_amounts.specs.declared.keys.RequestId.{RequestId}
 use Rattle.market_events.specs.declared.bodies.Body.{Body}
 use Rattle.market_events.specs.declared.bodies.Body.TheVariants as body
 use Rattle.market_events.specs.declared.bodies.PricedLine.{PricedLine}
+use Rattle.market_events.specs.Links.{stock_node, order_node, payment_node}
 use Rattle.market_events.specs.Orders.{order_total}
 use Rattle.market_events.specs.Requests.{same_id}
 use Rattle.market_events.specs.Services.{invoices}
@@ -34,9 +35,9 @@ use Rattle.market_laws.proofs.Settled.Ways.{Counts}
 
 -- what a payment is of: its total is the order's, and it was invoiced and held
 pub record Traced (h : Histories) (lawful : IsLawful h) (c : RequestId) (customer : ℕ) (lines : List PricedLine) (total : ℕ) : Type 0 where
-  pub total_is : total ≡ order_total (steps_now h lawful 3) c
-  pub invoiced : Member (body.Invoice c customer lines total) (made_on ORDER_TO_PAYMENT (steps_now h lawful 3))
-  pub held : Member (body.StockConfirmed c customer lines) (made_on STOCK_TO_ORDER (steps_now h lawful 2))
+  pub total_is : total ≡ order_total (steps_now h lawful order_node) c
+  pub invoiced : Member (body.Invoice c customer lines total) (made_on ORDER_TO_PAYMENT (steps_now h lawful order_node))
+  pub held : Member (body.StockConfirmed c customer lines) (made_on STOCK_TO_ORDER (steps_now h lawful stock_node))
 
 -- with this total it was paid
 pays-confirms : (c : RequestId) (total : ℕ) (b : Body) → pays c total b ≡ true → confirms c b ≡ true
@@ -47,23 +48,23 @@ pays-payment : (c : RequestId) (total : ℕ) (b : Body) → pays c total b ≡ t
 pays-payment c total b passes = confirms-payment c b (pays-confirms c total b passes)
 
 module _ (h : Histories) (lawful : IsLawful h) (settled : IsSettled h) (c : RequestId) where
-  pub payment-traced : (customer : ℕ) (lines : List PricedLine) (total : ℕ) → Member (body.Confirmed c customer lines total) (made_on PAYMENT_TO_STOCK (steps_now h lawful 4)) → Traced h lawful c customer lines total
+  pub payment-traced : (customer : ℕ) (lines : List PricedLine) (total : ℕ) → Member (body.Confirmed c customer lines total) (made_on PAYMENT_TO_STOCK (steps_now h lawful payment_node)) → Traced h lawful c customer lines total
   payment-traced customer lines total here =
-      let taken = confirmed-invoice (steps_now h lawful 4) (steps-run 4 (journal_at h 4)) c customer lines total here in
-      let invoiced = member-made h lawful settled 4 3 5 (omega arith) (omega arith) (omega arith) refl refl (invoices c) (invoices-come c) (body.Invoice c customer lines total) (same_id-self c) taken in
-      let held = invoice-held (steps_now h lawful 3) (steps-run 3 (journal_at h 3)) c customer lines total invoiced in
+      let taken = confirmed-invoice (steps_now h lawful payment_node) (steps-run payment_node (journal_at h payment_node)) c customer lines total here in
+      let invoiced = member-made h lawful settled payment_node order_node 5 (omega arith) (omega arith) (omega arith) refl refl (invoices c) (invoices-come c) (body.Invoice c customer lines total) (same_id-self c) taken in
+      let held = invoice-held (steps_now h lawful order_node) (steps-run order_node (journal_at h order_node)) c customer lines total invoiced in
       record {
-        total_is = held.1 ∙ sym (total-held (steps_now h lawful 3) (steps-run 3 (journal_at h 3)) c customer lines held.0);
+        total_is = held.1 ∙ sym (total-held (steps_now h lawful order_node) (steps-run order_node (journal_at h order_node)) c customer lines held.0);
         invoiced = invoiced;
-        held = member-made h lawful settled 3 2 4 (omega arith) (omega arith) (omega arith) refl refl (holds_pieces c) (holds-come c) (body.StockConfirmed c customer lines) (same_id-self c) held.0;
+        held = member-made h lawful settled order_node stock_node 4 (omega arith) (omega arith) (omega arith) refl refl (holds_pieces c) (holds-come c) (body.StockConfirmed c customer lines) (same_id-self c) held.0;
       }
 
-  module _ (n : Counts h lawful c 1 1 0) (total : ℕ) (is : total ≡ order_total (steps_now h lawful 3) c) where
+  module _ (n : Counts h lawful c 1 1 0) (total : ℕ) (is : total ≡ order_total (steps_now h lawful order_node) c) where
     -- each payment of it has this total
-    pays_it : (b : Body) → Member b (made_on PAYMENT_TO_STOCK (steps_now h lawful 4)) → confirms c b ≡ true → pays c total b ≡ true
+    pays_it : (b : Body) → Member b (made_on PAYMENT_TO_STOCK (steps_now h lawful payment_node)) → confirms c b ≡ true → pays c total b ≡ true
     pays_it (body.Confirmed checkout customer lines t) here passes =
         let same : checkout ≡ c = same_id-true checkout c passes in
-        let traced = payment-traced customer lines t (subst (λ i. Member (body.Confirmed i customer lines t) (made_on PAYMENT_TO_STOCK (steps_now h lawful 4))) same here) in
+        let traced = payment-traced customer lines t (subst (λ i. Member (body.Confirmed i customer lines t) (made_on PAYMENT_TO_STOCK (steps_now h lawful payment_node))) same here) in
         and_from (same_id checkout c) (t == total) passes (eq-eqb t total (traced.total_is ∙ sym is))
     pays_it other here passes = cc
 
@@ -71,29 +72,29 @@ module _ (h : Histories) (lawful : IsLawful h) (settled : IsSettled h) (c : Requ
     paid-8 = record {
       once = n.paid_is;
       so_much =
-          let made = made_on PAYMENT_TO_STOCK (steps_now h lawful 4) in
+          let made = made_on PAYMENT_TO_STOCK (steps_now h lawful payment_node) in
           let most = count-members (pays c total) (confirms c) made (λ b here passes. pays-confirms c total b passes) in
           let least = count-members (confirms c) (pays c total) made pays_it in
           omega (arith, most, least, n.paid_is);
     }
 
     -- the same on a link on which the same was made
-    same_paid : (k : Link) → made_on PAYMENT_TO_STOCK (steps_now h lawful 4) ≡ made_on k (steps_now h lawful 4) → IsPaidOn h k c total
+    same_paid : (k : Link) → made_on PAYMENT_TO_STOCK (steps_now h lawful payment_node) ≡ made_on k (steps_now h lawful payment_node) → IsPaidOn h k c total
     same_paid k same = record { once = ap (count_by (confirms c)) (sym same) ∙ paid-8.once; so_much = ap (count_by (pays c total)) (sym same) ∙ paid-8.so_much }
 
     pub paid-9 : IsPaidOn h PAYMENT_TO_ORDER c total
-    paid-9 = same_paid PAYMENT_TO_ORDER (payments-9 (steps_now h lawful 4) (steps-run 4 (journal_at h 4)))
+    paid-9 = same_paid PAYMENT_TO_ORDER (payments-9 (steps_now h lawful payment_node) (steps-run payment_node (journal_at h payment_node)))
 
     pub paid-11 : IsPaidOn h PAYMENT_TO_CUSTOMER c total
-    paid-11 = same_paid PAYMENT_TO_CUSTOMER (payments-11 (steps_now h lawful 4) (steps-run 4 (journal_at h 4)))
+    paid-11 = same_paid PAYMENT_TO_CUSTOMER (payments-11 (steps_now h lawful payment_node) (steps-run payment_node (journal_at h payment_node)))
 
     pub paid-12 : IsPaidOn h PAYMENT_TO_SELLER c total
-    paid-12 = same_paid PAYMENT_TO_SELLER (payments-12 (steps_now h lawful 4) (steps-run 4 (journal_at h 4)))
+    paid-12 = same_paid PAYMENT_TO_SELLER (payments-12 (steps_now h lawful payment_node) (steps-run payment_node (journal_at h payment_node)))
 
     pub paid-10 : IsPaidOn h PAYMENT_TO_SHIPMENT c total
     paid-10 =
-        let made = made_on PAYMENT_TO_STOCK (steps_now h lawful 4) in
-        let on = payments-10 (steps_now h lawful 4) (steps-run 4 (journal_at h 4)) in
+        let made = made_on PAYMENT_TO_STOCK (steps_now h lawful payment_node) in
+        let on = payments-10 (steps_now h lawful payment_node) (steps-run payment_node (journal_at h payment_node)) in
         record {
           once = ap (count_by (confirms c)) on ∙ count-kept (confirms c) is_payment (confirms-payment c) made ∙ paid-8.once;
           so_much = ap (count_by (pays c total)) on ∙ count-kept (pays c total) is_payment (pays-payment c total) made ∙ paid-8.so_much;
@@ -103,10 +104,10 @@ module _ (h : Histories) (lawful : IsLawful h) (settled : IsSettled h) (c : Requ
     unfailed-8 = n.failed_is
 
     pub unfailed-9 : made_by_payment h PAYMENT_TO_ORDER (fails c) ≡ 0
-    unfailed-9 = ap (count_by (fails c)) (sym (payments-9 (steps_now h lawful 4) (steps-run 4 (journal_at h 4)))) ∙ n.failed_is
+    unfailed-9 = ap (count_by (fails c)) (sym (payments-9 (steps_now h lawful payment_node) (steps-run payment_node (journal_at h payment_node)))) ∙ n.failed_is
 
     pub unfailed-11 : made_by_payment h PAYMENT_TO_CUSTOMER (fails c) ≡ 0
-    unfailed-11 = ap (count_by (fails c)) (sym (payments-11 (steps_now h lawful 4) (steps-run 4 (journal_at h 4)))) ∙ n.failed_is
+    unfailed-11 = ap (count_by (fails c)) (sym (payments-11 (steps_now h lawful payment_node) (steps-run payment_node (journal_at h payment_node)))) ∙ n.failed_is
 
     pub unfailed-12 : made_by_payment h PAYMENT_TO_SELLER (fails c) ≡ 0
-    unfailed-12 = ap (count_by (fails c)) (sym (payments-12 (steps_now h lawful 4) (steps-run 4 (journal_at h 4)))) ∙ n.failed_is
+    unfailed-12 = ap (count_by (fails c)) (sym (payments-12 (steps_now h lawful payment_node) (steps-run payment_node (journal_at h payment_node)))) ∙ n.failed_is

@@ -1,11 +1,16 @@
 use Rattle.std.proofs.Common.{[]}
 use Rattle.market_events.specs.declared.requests.Ask.TheVariants.{Delete, Price}
-use Rattle.basket_tests.proofs.ProductTesting.{after, create, mug, stands_at_first, create_fits, delete_fits, price_of_gone_fits, again_fits}
+use Rattle.service_driving.proofs.Standing.{can_take_body, took_body, starts}
+use Rattle.basket_tests.proofs.ProductTesting.{after, asked, create, from_seven, mug, create_fits, delete_fits, price_of_gone_fits, again_fits}
 use Rattle.basket_tests.proofs.product_tests.versions_go_on_after_a_deletion.Goals as goal
 
 pub step-requires : goal.step-requires
 step-requires g c =
-    ∣ ([], stands_at_first c.new-products.result c.new-products.ensures, create_fits c.in_ok-price.price c.in_ok-freight.freight c.in_ok-price.ensures.ok c.in_ok-freight.ensures.ok) ∣₁
+    let p = c.in_ok-price.price in
+    let f = c.in_ok-freight.freight in
+    let is = c.in_ok-price.ensures.ok in
+    let none = c.in_ok-freight.ensures.ok in
+    can_take_body c.new-products.result [] from_seven c.asked-create_mug.result (asked 1 (create p f)) (starts c.new-products.result c.new-products.ensures) c.asked-create_mug.ensures (create_fits p f is none)
 
 pub step-requires-2 : goal.step-requires-2
 step-requires-2 g c =
@@ -13,8 +18,8 @@ step-requires-2 g c =
     let f = c.in_ok-freight.freight in
     let is = c.in_ok-price.ensures.ok in
     let none = c.in_ok-freight.ensures.ok in
-    let first = c.in_ok-step.ensures [] (stands_at_first c.new-products.result c.new-products.ensures) (create_fits p f is none) in
-    ∣ (after [] 1 (create p f), first, delete_fits p f is none) ∣₁
+    let first = took_body c.new-products.result c.step.new.service [] from_seven c.asked-create_mug.result (asked 1 (create p f)) (starts c.new-products.result c.new-products.ensures) c.asked-create_mug.ensures (create_fits p f is none) c.in_ok-step.ensures.stands in
+    can_take_body c.step.new.service (after [] 1 (create p f)) from_seven c.asked-delete_mug.result (asked 2 (Delete mug)) first c.asked-delete_mug.ensures (delete_fits p f is none)
 
 pub step-requires-3 : goal.step-requires-3
 step-requires-3 g c =
@@ -22,9 +27,9 @@ step-requires-3 g c =
     let f = c.in_ok-freight.freight in
     let is = c.in_ok-price.ensures.ok in
     let none = c.in_ok-freight.ensures.ok in
-    let first = c.in_ok-step.ensures [] (stands_at_first c.new-products.result c.new-products.ensures) (create_fits p f is none) in
-    let second = c.in_ok-second.ensures (after [] 1 (create p f)) first (delete_fits p f is none) in
-    ∣ (after (after [] 1 (create p f)) 2 (Delete mug), second, price_of_gone_fits p f is none) ∣₁
+    let first = took_body c.new-products.result c.step.new.service [] from_seven c.asked-create_mug.result (asked 1 (create p f)) (starts c.new-products.result c.new-products.ensures) c.asked-create_mug.ensures (create_fits p f is none) c.in_ok-step.ensures.stands in
+    let second = took_body c.step.new.service c.step-2.new.service (after [] 1 (create p f)) from_seven c.asked-delete_mug.result (asked 2 (Delete mug)) first c.asked-delete_mug.ensures (delete_fits p f is none) c.in_ok-second.ensures.stands in
+    can_take_body c.step-2.new.service (after (after [] 1 (create p f)) 2 (Delete mug)) from_seven c.asked-price_mug.result (asked 3 (Price mug p)) second c.asked-price_mug.ensures (price_of_gone_fits p f is none)
 
 pub step-requires-4 : goal.step-requires-4
 step-requires-4 g c =
@@ -32,7 +37,7 @@ step-requires-4 g c =
     let f = c.in_ok-freight.freight in
     let is = c.in_ok-price.ensures.ok in
     let none = c.in_ok-freight.ensures.ok in
-    let first = c.in_ok-step.ensures [] (stands_at_first c.new-products.result c.new-products.ensures) (create_fits p f is none) in
-    let second = c.in_ok-second.ensures (after [] 1 (create p f)) first (delete_fits p f is none) in
-    let third = c.in_ok-third.ensures (after (after [] 1 (create p f)) 2 (Delete mug)) second (price_of_gone_fits p f is none) in
-    ∣ (after (after (after [] 1 (create p f)) 2 (Delete mug)) 3 (Price mug p), third, again_fits p f is none) ∣₁
+    let first = took_body c.new-products.result c.step.new.service [] from_seven c.asked-create_mug.result (asked 1 (create p f)) (starts c.new-products.result c.new-products.ensures) c.asked-create_mug.ensures (create_fits p f is none) c.in_ok-step.ensures.stands in
+    let second = took_body c.step.new.service c.step-2.new.service (after [] 1 (create p f)) from_seven c.asked-delete_mug.result (asked 2 (Delete mug)) first c.asked-delete_mug.ensures (delete_fits p f is none) c.in_ok-second.ensures.stands in
+    let third = took_body c.step-2.new.service c.step-3.new.service (after (after [] 1 (create p f)) 2 (Delete mug)) from_seven c.asked-price_mug.result (asked 3 (Price mug p)) second c.asked-price_mug.ensures (price_of_gone_fits p f is none) c.in_ok-third.ensures.stands in
+    can_take_body c.step-3.new.service (after (after (after [] 1 (create p f)) 2 (Delete mug)) 3 (Price mug p)) from_seven c.asked-create_again.result (asked 4 (create p f)) third c.asked-create_again.ensures (again_fits p f is none)

@@ -13,5 +13,5 @@ pub cells-requires : goal.cells-requires
 cells-requires c =
     ∣ (
       four_pieces ++ t.short ∷ [],
-      t.took c.in_ok-stocks.stocks c.step.new.service four_pieces t.short (body.Reserve (an_id 7 8) 7 c.in_ok-pieces.pieces) c.in_ok-stocks.ensures t.follows_short (ap (body.Reserve (an_id 7 8) 7) c.in_ok-pieces.ensures) c.in_ok-step.ensures.taken,
+      t.took c.in_ok-stocks.stocks c.step.new.service four_pieces t.short (body.Reserve (an_id 7 8) 7 c.in_ok-pieces.pieces) c.in_ok-stocks.ensures t.follows_short (ap (body.Reserve (an_id 7 8) 7) c.in_ok-pieces.ensures) c.in_ok-step.ensures.stands,
     ) ∣₁

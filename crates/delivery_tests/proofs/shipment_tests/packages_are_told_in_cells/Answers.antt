@@ -11,25 +11,25 @@ step-requires g c =
 
 pub step-requires-2 : goal.step-requires-2
 step-requires-2 g c =
-    let after_1 : Stands Role.Shipment Holds c.step.new.service ([] ++ t.older ∷ []) = t.took c.new-shipments.result c.step.new.service ([]) t.older c.in_ok-first.first (t.at_first c.new-shipments.result c.new-shipments.ensures) t.older_next c.in_ok-first.ensures c.in_ok-left.ensures in
+    let after_1 : Stands Role.Shipment Holds c.step.new.service ([] ++ t.older ∷ []) = t.took c.new-shipments.result c.step.new.service ([]) t.older c.in_ok-first.first (t.at_first c.new-shipments.result c.new-shipments.ensures) t.older_next c.in_ok-first.ensures c.in_ok-left.ensures.stands in
     t.can_take c.step.new.service ([] ++ t.older ∷ []) t.later c.in_ok-second.second after_1 t.later_next c.in_ok-second.ensures
 
 pub step-requires-3 : goal.step-requires-3
 step-requires-3 g c =
-    let after_1 : Stands Role.Shipment Holds c.step.new.service ([] ++ t.older ∷ []) = t.took c.new-shipments.result c.step.new.service ([]) t.older c.in_ok-first.first (t.at_first c.new-shipments.result c.new-shipments.ensures) t.older_next c.in_ok-first.ensures c.in_ok-left.ensures in
-    let after_2 : Stands Role.Shipment Holds c.step-2.new.service ([] ++ t.older ∷ [] ++ t.later ∷ []) = t.took c.step.new.service c.step-2.new.service ([] ++ t.older ∷ []) t.later c.in_ok-second.second after_1 t.later_next c.in_ok-second.ensures c.in_ok-also.ensures in
+    let after_1 : Stands Role.Shipment Holds c.step.new.service ([] ++ t.older ∷ []) = t.took c.new-shipments.result c.step.new.service ([]) t.older c.in_ok-first.first (t.at_first c.new-shipments.result c.new-shipments.ensures) t.older_next c.in_ok-first.ensures c.in_ok-left.ensures.stands in
+    let after_2 : Stands Role.Shipment Holds c.step-2.new.service ([] ++ t.older ∷ [] ++ t.later ∷ []) = t.took c.step.new.service c.step-2.new.service ([] ++ t.older ∷ []) t.later c.in_ok-second.second after_1 t.later_next c.in_ok-second.ensures c.in_ok-also.ensures.stands in
     t.can_take c.step-2.new.service ([] ++ t.older ∷ [] ++ t.later ∷ []) t.older_arrive c.deliver-eight.result after_2 t.older_arrive_next c.deliver-eight.ensures
 
 pub cells-requires : goal.cells-requires
 cells-requires g c =
-    let after_1 : Stands Role.Shipment Holds c.step.new.service ([] ++ t.older ∷ []) = t.took c.new-shipments.result c.step.new.service ([]) t.older c.in_ok-first.first (t.at_first c.new-shipments.result c.new-shipments.ensures) t.older_next c.in_ok-first.ensures c.in_ok-left.ensures in
-    let after_2 : Stands Role.Shipment Holds c.step-2.new.service ([] ++ t.older ∷ [] ++ t.later ∷ []) = t.took c.step.new.service c.step-2.new.service ([] ++ t.older ∷ []) t.later c.in_ok-second.second after_1 t.later_next c.in_ok-second.ensures c.in_ok-also.ensures in
-    let after_3 : Stands Role.Shipment Holds c.step-3.new.service ([] ++ t.older ∷ [] ++ t.later ∷ [] ++ t.older_arrive ∷ []) = t.took c.step-2.new.service c.step-3.new.service ([] ++ t.older ∷ [] ++ t.later ∷ []) t.older_arrive c.deliver-eight.result after_2 t.older_arrive_next c.deliver-eight.ensures c.in_ok-older.ensures in
+    let after_1 : Stands Role.Shipment Holds c.step.new.service ([] ++ t.older ∷ []) = t.took c.new-shipments.result c.step.new.service ([]) t.older c.in_ok-first.first (t.at_first c.new-shipments.result c.new-shipments.ensures) t.older_next c.in_ok-first.ensures c.in_ok-left.ensures.stands in
+    let after_2 : Stands Role.Shipment Holds c.step-2.new.service ([] ++ t.older ∷ [] ++ t.later ∷ []) = t.took c.step.new.service c.step-2.new.service ([] ++ t.older ∷ []) t.later c.in_ok-second.second after_1 t.later_next c.in_ok-second.ensures c.in_ok-also.ensures.stands in
+    let after_3 : Stands Role.Shipment Holds c.step-3.new.service ([] ++ t.older ∷ [] ++ t.later ∷ [] ++ t.older_arrive ∷ []) = t.took c.step-2.new.service c.step-3.new.service ([] ++ t.older ∷ [] ++ t.later ∷ []) t.older_arrive c.deliver-eight.result after_2 t.older_arrive_next c.deliver-eight.ensures c.in_ok-older.ensures.stands in
     ∣ ([] ++ t.older ∷ [] ++ t.later ∷ [] ++ t.older_arrive ∷ [], after_3) ∣₁
 
 pub value-requires : goal.value-requires
 value-requires g c =
-    let after_1 : Stands Role.Shipment Holds c.step.new.service ([] ++ t.older ∷ []) = t.took c.new-shipments.result c.step.new.service ([]) t.older c.in_ok-first.first (t.at_first c.new-shipments.result c.new-shipments.ensures) t.older_next c.in_ok-first.ensures c.in_ok-left.ensures in
-    let after_2 : Stands Role.Shipment Holds c.step-2.new.service ([] ++ t.older ∷ [] ++ t.later ∷ []) = t.took c.step.new.service c.step-2.new.service ([] ++ t.older ∷ []) t.later c.in_ok-second.second after_1 t.later_next c.in_ok-second.ensures c.in_ok-also.ensures in
-    let after_3 : Stands Role.Shipment Holds c.step-3.new.service ([] ++ t.older ∷ [] ++ t.later ∷ [] ++ t.older_arrive ∷ []) = t.took c.step-2.new.service c.step-3.new.service ([] ++ t.older ∷ [] ++ t.later ∷ []) t.older_arrive c.deliver-eight.result after_2 t.older_arrive_next c.deliver-eight.ensures c.in_ok-older.ensures in
+    let after_1 : Stands Role.Shipment Holds c.step.new.service ([] ++ t.older ∷ []) = t.took c.new-shipments.result c.step.new.service ([]) t.older c.in_ok-first.first (t.at_first c.new-shipments.result c.new-shipments.ensures) t.older_next c.in_ok-first.ensures c.in_ok-left.ensures.stands in
+    let after_2 : Stands Role.Shipment Holds c.step-2.new.service ([] ++ t.older ∷ [] ++ t.later ∷ []) = t.took c.step.new.service c.step-2.new.service ([] ++ t.older ∷ []) t.later c.in_ok-second.second after_1 t.later_next c.in_ok-second.ensures c.in_ok-also.ensures.stands in
+    let after_3 : Stands Role.Shipment Holds c.step-3.new.service ([] ++ t.older ∷ [] ++ t.later ∷ [] ++ t.older_arrive ∷ []) = t.took c.step-2.new.service c.step-3.new.service ([] ++ t.older ∷ [] ++ t.later ∷ []) t.older_arrive c.deliver-eight.result after_2 t.older_arrive_next c.deliver-eight.ensures c.in_ok-older.ensures.stands in
     ∣ ([] ++ t.older ∷ [] ++ t.later ∷ [] ++ t.older_arrive ∷ [], after_3) ∣₁

@@ -7,7 +7,7 @@ loop-request-preserved c =
     let front = take c.loop-request.request-index c.args.requests.now in
     next_line c.answer.new.self c.args.requests.now c.loop-request.request-index c.request-item.result c.loop-request.text.items c.append_answer.new.text.items c.in_ok-reply.reply
     c.loop-request-test.true c.request-item.is c.loop-request.invariant.1
-    (c.in_ok-reply.ensures.answered front c.loop-request.invariant.0) (c.in_ok-reply.ensures.on front c.loop-request.invariant.0) c.in_ok-append_answer.ensures
+    (c.in_ok-reply.ensures.answered front c.loop-request.invariant.0) (c.in_ok-reply.ensures.stands_on front c.loop-request.invariant.0) c.in_ok-append_answer.ensures
 
 pub returns : goal.returns
 returns c =

@@ -13,12 +13,12 @@ records-init c = (
   rw c.new-requests.ensures.items (All-nil IsRequest),
 )
 
-pub returns-in_err-id-clause-said : goal.returns-in_err-id-clause-said
-returns-in_err-id-clause-said c =
+pub returns-in_err-id-clause-reads : goal.returns-in_err-id-clause-reads
+returns-in_err-id-clause-reads c =
     let found = rw c.if-branch.true at c.in_ok-next_record.ensures in
     let exit = err_from_is_err_and c.from_residual-in_err-id.result c.from_residual-in_err-id.ensures.1 in
     tells_fault c.args.text.now c.records.reader c.next_record.new.reader c.records.number c.records.requests.items (fields_of c.next_record.new.row)
-    c.records.invariant.0 found _ c.in_err-id.ensures.said _ (exit.1 ∙ ap Err exit.2)
+    c.records.invariant.0 found _ c.in_err-id.ensures.reads _ (exit.1 ∙ ap Err exit.2)
 
 pub records-smaller : goal.records-smaller
 records-smaller c =
@@ -29,13 +29,13 @@ records-smaller c =
 pub records-preserved : goal.records-preserved
 records-preserved c =
     let found = rw c.if-branch.true at c.in_ok-next_record.ensures in (
-      rw c.in_ok-push.ensures.items (goes_on c.args.text.now c.records.reader c.next_record.new.reader c.records.number c.records.requests.items (fields_of c.next_record.new.row) _ c.records.invariant.0 found c.in_ok-id.ensures.said),
+      rw c.in_ok-push.ensures.items (goes_on c.args.text.now c.records.reader c.next_record.new.reader c.records.number c.records.requests.items (fields_of c.next_record.new.row) _ c.records.invariant.0 found c.in_ok-id.ensures.reads),
       omega (arith, c.in_ok-push.ensures.len, c.records.invariant.1),
       rw c.in_ok-push.ensures.items (All-push IsRequest c.records.requests.items _ c.records.invariant.2 c.in_ok-id.ensures.formed),
     )
 
-pub returns-clause-said : goal.returns-clause-said
-returns-clause-said c =
+pub returns-clause-reads : goal.returns-clause-reads
+returns-clause-reads c =
     let found = rw c.if-branch.false at c.in_ok-next_record.ensures in
     ends c.args.text.now c.records.reader c.next_record.new.reader c.records.number c.records.requests.items (fields_of c.next_record.new.row) c.records.invariant.0 found
 

@@ -1,4 +1,4 @@
--- By what is matched on links 0 and 1, all of which fits where it is taken.
+-- By what is matched on the links from products, all of which fits where it is taken.
 use Rattle.market_laws.proofs.Moments.CopyFronts.{cart-front, stock-front, cart-shows, stock-shows}
 use Rattle.market_laws.proofs.laws.copies_are_of_a_front.Goals as goal
 

@@ -1,4 +1,5 @@
--- By what stock took on link 8, and by the balance of what was made, taken and is outstanding on links 4, 5 and 8.
+-- By what payments told stock, and by the balance of what was made, taken and is outstanding on the links from stock to orders, from
+-- orders to payments and from payments to stock.
 use Rattle.market_events.proofs.Runs.Stock.{reserved-le-on_hand, sold-reserved-le-stocked}
 use Rattle.market_laws.proofs.Moments.Reservations.{reserved-listed, listed-wait, way-listed}
 use Rattle.market_laws.proofs.laws.reserved_is_listed.Goals as goal

@@ -7,7 +7,7 @@ use Rattle.market_texts.proofs.readers.read_body.Goals as goal
 
 pub returns : goal.returns
 returns c = record {
-  said = c.whole_body.ensures;
+  exact = c.whole_body.ensures;
   formed = answer_formed body_of_text text_of_body IsBody body_reads body_spelled c.args.text.now c.whole_body.result c.whole_body.ensures;
   spelled = answer_spelled body_of_text text_of_body IsBody body_reads body_spelled c.args.text.now c.whole_body.result c.whole_body.ensures;
   reads = answer_reads body_of_text text_of_body IsBody body_reads body_spelled c.args.text.now c.whole_body.result c.whole_body.ensures;

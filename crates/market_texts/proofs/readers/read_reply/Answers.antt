@@ -7,7 +7,7 @@ use Rattle.market_texts.proofs.readers.read_reply.Goals as goal
 
 pub returns : goal.returns
 returns c = record {
-  said = c.whole_reply.ensures;
+  exact = c.whole_reply.ensures;
   formed = answer_formed reply_of_text text_of_reply IsReply reply_reads reply_spelled c.args.text.now c.whole_reply.result c.whole_reply.ensures;
   spelled = answer_spelled reply_of_text text_of_reply IsReply reply_reads reply_spelled c.args.text.now c.whole_reply.result c.whole_reply.ensures;
   reads = answer_reads reply_of_text text_of_reply IsReply reply_reads reply_spelled c.args.text.now c.whole_reply.result c.whole_reply.ensures;

@@ -10,7 +10,7 @@ pub returns : goal.returns
 returns c =
     let said = sym c.whole_request.ensures in
     record {
-      said = c.whole_request.ensures;
+      exact = c.whole_request.ensures;
       formed = subst (λ r. IfOk r IsRequest) said (sure_formed request_of_text text_of_request IsRequest request_reads request_spelled c.args.text.now (request_of_text c.args.text.now) refl);
       spelled = subst (λ r. IfOk r (λ request. c.args.text.now ≡ text_of_request request)) said (sure_spelled request_of_text text_of_request IsRequest request_reads request_spelled c.args.text.now (request_of_text c.args.text.now) refl);
       reads = λ request formed is. c.whole_request.ensures ∙ sure_reads request_of_text text_of_request IsRequest request_reads request_spelled c.args.text.now request formed is;

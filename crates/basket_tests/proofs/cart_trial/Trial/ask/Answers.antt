@@ -19,5 +19,5 @@ invariant_of-self g c =
     record {
       trial = goes was.carts c.step.new.service was.shown was.next (Asked 7 0) (trial_asked was.next c.args.ask) c.step.result
           (fits_asked was.carts was.shown was.next c.args.ask small (c.is_for_cart.ensures.formed yes) (c.is_for_cart.ensures.for_cart yes))
-          c.step.ensures.taken c.step.ensures.unchanged (asks_other was.next c.args.ask) (shows_asked was.carts was.shown was.next c.args.ask) was.trial;
+          c.step.ensures.stands c.step.ensures.unchanged (asks_other was.next c.args.ask) (shows_asked was.carts was.shown was.next c.args.ask) was.trial;
     }

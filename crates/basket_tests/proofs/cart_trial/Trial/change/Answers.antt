@@ -27,6 +27,6 @@ invariant_of-result g c =
       trial = goes_on was.carts c.step.new.service was.shown c.apply.new.self was.next PRODUCT_TO_CART (Changed c.args.key c.args.version c.args.change)
           (fits_changed was.carts was.shown was.next c.args.key c.args.version c.args.change small (c.is_due.ensures.known yes) counted (c.is_due.ensures.formed yes)
           (ap (λ look. change_fits look c.args.version c.args.change) (sym c.look.ensures.value) ∙ c.is_due.ensures.due yes))
-          c.in_ok-outs.ensures.taken (λ number above. refl)
+          c.in_ok-outs.ensures.stands (λ number above. refl)
           (shows_changed was.carts was.shown c.apply.new.self was.next c.args.key c.args.version c.args.change c.in_ok-apply.ensures.copies) was.trial;
     }

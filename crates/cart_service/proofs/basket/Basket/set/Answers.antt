@@ -1,7 +1,7 @@
-use Rattle.std.proofs.Common.{◌≡◌, ◌+◌, ◌&&◌, not, false, nat_le, length, is_some, if◌then◌else◌, ap, sym, ◌∙◌}
+use Rattle.std.proofs.Common.{◌+◌, ◌&&◌, not, nat_le, length, is_some, if◌then◌else◌, ap, ◌∙◌}
 use Rattle.market_events.specs.Carts.{has_key}
 use Rattle.market_events.specs.WellFormed.{most_lines}
-use Rattle.cart_service.proofs.Lines.{found, set-few}
+use Rattle.cart_service.proofs.Lines.{set-few}
 use Rattle.cart_service.proofs.basket.Basket.set.Goals as goal
 
 pub invariant_of-self-2 : goal.invariant_of-self-2

@@ -1,13 +1,11 @@
-use Rattle.std.proofs.Common.{◌≡◌, ap, subst, sym, ◌∙◌}
+use Rattle.std.proofs.Common.{◌≡◌, subst, sym, ◌∙◌}
 use Rattle.cart_service.specs.Tables.{CartTables}
 use Rattle.market_events.specs.declared.roles.Role.{Role}
 use Rattle.market_events.specs.Carts.{changes_taken}
 use Rattle.market_events.specs.CellLists.{last_value}
 use Rattle.market_events.specs.Cells.{all_cells}
 use Rattle.market_events.proofs.NamedCells.Keyed.{IsFilled, value_told, none_told}
-use Rattle.cart_replica.specs.Copy.{IsCopyOf}
 use Rattle.cart_replica.proofs.CopyCells.{changes_taken-keys}
-use Rattle.cart_service.specs.Cells.{AreSmall, basket_cells}
 use Rattle.cart_service.specs.Holds.{Holds}
 use Rattle.market_events.specs.Standing.{Stands}
 use Rattle.cart_service.proofs.Values.{are_small, value_is, all_filled}

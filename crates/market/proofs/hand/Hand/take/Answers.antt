@@ -18,4 +18,4 @@ returns c = λ given stands.
     let may = sym c.can_keep.ensures ∙ c.if-not-can_keep.false in
     let next = is_next c.args.self.now given c.args.request.now stands may in
     takes_in c.args.self.now given c.args.request.now stands _ c.in_ok-reply.reply may c.in_ok-keep.ensures.ok
-    (c.in_ok-reply.ensures.replied (kept_of most_kept given) stands.serves next) (c.in_ok-reply.ensures.on (kept_of most_kept given) stands.serves next)
+    (c.in_ok-reply.ensures.replied (kept_of most_kept given) stands.serves next) (c.in_ok-reply.ensures.serves_on (kept_of most_kept given) stands.serves next)

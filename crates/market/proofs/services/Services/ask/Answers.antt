@@ -25,7 +25,7 @@ carry-requires c =
     let answered = next_answered c.args.self.now it.0 c.args.request.now it.1 it.2 c.requires.formed in
     ∣ (
       with_request it.1.taken c.args.request.now,
-      c.in_ok-made.ensures.on it.1.taken it.1.stand answered.fit,
+      c.in_ok-made.ensures.stands_on it.1.taken it.1.stand answered.fit,
       (answered.trace, subst (λ made. IsTrace (with_request it.1.taken c.args.request.now) made answered.trace) (sym (c.in_ok-made.ensures.made it.1.taken it.1.stand answered.fit)) answered.carried),
     ) ∣₁)
 
@@ -35,7 +35,7 @@ unreachable-requires c =
     (λ it.
     let answered = next_answered c.args.self.now it.0 c.args.request.now it.1 it.2 c.requires.formed in
     let carried = subst (λ made. IsTrace (with_request it.1.taken c.args.request.now) made answered.trace) (sym (c.in_ok-made.ensures.made it.1.taken it.1.stand answered.fit)) answered.carried in
-    let told = c.in_ok-reply.ensures.told (with_request it.1.taken c.args.request.now) answered.trace (c.in_ok-made.ensures.on it.1.taken it.1.stand answered.fit) carried in
+    let told = c.in_ok-reply.ensures.told (with_request it.1.taken c.args.request.now) answered.trace (c.in_ok-made.ensures.stands_on it.1.taken it.1.stand answered.fit) carried in
     cc (sym c.in-None.is ∙ told ∙ next_told c.args.self.now it.0 c.args.request.now it.1 it.2 c.requires.formed))
 
 pub returns-clause-replied : goal.returns-clause-replied
@@ -43,15 +43,15 @@ returns-clause-replied c = λ requests serves next.
     let answered = next_answered c.args.self.now requests c.args.request.now serves next c.requires.formed in
     let carried = subst (λ made. IsTrace (with_request serves.taken c.args.request.now) made answered.trace) (sym (c.in_ok-made.ensures.made serves.taken serves.stand answered.fit)) answered.carried in
     same_in c.in-Some.reply (sequential_reply (acts_after no_acts requests) c.args.request.now)
-    (sym c.in-Some.is ∙ c.in_ok-reply.ensures.told (with_request serves.taken c.args.request.now) answered.trace (c.in_ok-made.ensures.on serves.taken serves.stand answered.fit) carried
+    (sym c.in-Some.is ∙ c.in_ok-reply.ensures.told (with_request serves.taken c.args.request.now) answered.trace (c.in_ok-made.ensures.stands_on serves.taken serves.stand answered.fit) carried
     ∙ next_told c.args.self.now requests c.args.request.now serves next c.requires.formed)
 
-pub returns-clause-on : goal.returns-clause-on
-returns-clause-on c = λ requests serves next.
+pub returns-clause-serves_on : goal.returns-clause-serves_on
+returns-clause-serves_on c = λ requests serves next.
     let answered = next_answered c.args.self.now requests c.args.request.now serves next c.requires.formed in
     let carried = subst (λ made. IsTrace (with_request serves.taken c.args.request.now) made answered.trace) (sym (c.in_ok-made.ensures.made serves.taken serves.stand answered.fit)) answered.carried in
     serves_more c.args.self.now requests c.args.request.now serves next c.requires.formed c.carry.new.self
-    (c.in_ok-reply.ensures.on (with_request serves.taken c.args.request.now) answered.trace (c.in_ok-made.ensures.on serves.taken serves.stand answered.fit) carried)
+    (c.in_ok-reply.ensures.stands_on (with_request serves.taken c.args.request.now) answered.trace (c.in_ok-made.ensures.stands_on serves.taken serves.stand answered.fit) carried)
 
 pub returns-clause-formed : goal.returns-clause-formed
 returns-clause-formed c =
@@ -61,6 +61,6 @@ returns-clause-formed c =
     let answered = next_answered c.args.self.now it.0 c.args.request.now it.1 it.2 c.requires.formed in
     let carried = subst (λ made. IsTrace (with_request it.1.taken c.args.request.now) made answered.trace) (sym (c.in_ok-made.ensures.made it.1.taken it.1.stand answered.fit)) answered.carried in
     let same = same_in c.in-Some.reply (sequential_reply (acts_after no_acts it.0) c.args.request.now)
-    (sym c.in-Some.is ∙ c.in_ok-reply.ensures.told (with_request it.1.taken c.args.request.now) answered.trace (c.in_ok-made.ensures.on it.1.taken it.1.stand answered.fit) carried
+    (sym c.in-Some.is ∙ c.in_ok-reply.ensures.told (with_request it.1.taken c.args.request.now) answered.trace (c.in_ok-made.ensures.stands_on it.1.taken it.1.stand answered.fit) carried
     ∙ next_told c.args.self.now it.0 c.args.request.now it.1 it.2 c.requires.formed) in
     false≢true (sym no ∙ formed_is c.in-Some.reply (subst IsReply (sym same) (next_reply_formed c.args.self.now it.0 c.args.request.now it.1 it.2 c.requires.formed)))))

@@ -28,7 +28,7 @@ loop-link-preserved c = λ taken trace stand carried.
     (subst (λ waiting. StandsAt c.pass.new.self waiting (option_or (reply_told (c.in-Some.link, c.in-Some.body)) c.loop-link.reply) taken trace) (sym c.in_ok-append-2.ensures)
     (goes_on c.args.self.now c.loop-link.self c.args.made c.pop_front.new.self.items (c.in-Some.link, c.in-Some.body) c.loop-link.reply
     (subst (λ waiting. IsCarrying c.args.self.now c.loop-link.self c.args.made waiting c.loop-link.reply) c.in-Some.ensures.items c.loop-link.invariant)
-    c.pass.new.self c.in_ok-made.made c.in_ok-made.ensures.made c.in_ok-made.ensures.on taken trace stand carried))
+    c.pass.new.self c.in_ok-made.made c.in_ok-made.ensures.made c.in_ok-made.ensures.stands_on taken trace stand carried))
 
 pub returns-clause-told : goal.returns-clause-told
 returns-clause-told c = λ taken trace stand carried.
@@ -36,8 +36,8 @@ returns-clause-told c = λ taken trace stand carried.
     (subst (λ waiting. IsCarrying c.args.self.now c.loop-link.self c.args.made waiting c.loop-link.reply) (empty_of_rest c.loop-link.waiting.items (c.in_default.ensures.items ∙ c.in_default.ensures.rest)) c.loop-link.invariant)
     taken trace stand carried
 
-pub returns-clause-on : goal.returns-clause-on
-returns-clause-on c = λ taken trace stand carried.
+pub returns-clause-stands_on : goal.returns-clause-stands_on
+returns-clause-stands_on c = λ taken trace stand carried.
     stands_in_the_end c.args.self.now c.loop-link.self c.args.made c.loop-link.reply
     (subst (λ waiting. IsCarrying c.args.self.now c.loop-link.self c.args.made waiting c.loop-link.reply) (empty_of_rest c.loop-link.waiting.items (c.in_default.ensures.items ∙ c.in_default.ensures.rest)) c.loop-link.invariant)
     taken trace stand carried

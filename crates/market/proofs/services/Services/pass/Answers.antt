@@ -12,5 +12,5 @@ accept-requires c = can_take_there c.args.self.now c.args.link c.in-Service.fiel
 pub returns-in-Service : goal.returns-in-Service
 returns-in-Service c = record {
   made = makes_there c.args.self.now c.args.link c.in-Service.field-0 c.in-Service.is c.args.body.now c.receiver_of.result c.receiver_of.ensures c.accept.result c.accept.ensures.made;
-  on = stands_there c.args.self.now c.args.link c.in-Service.field-0 c.in-Service.is c.args.body.now c.receiver_of.result c.receiver_of.ensures c.accept.result c.accept.new.self c.accept.ensures.on;
+  stands_on = stands_there c.args.self.now c.args.link c.in-Service.field-0 c.in-Service.is c.args.body.now c.receiver_of.result c.receiver_of.ensures c.accept.result c.accept.new.self c.accept.ensures.stands_on;
 }

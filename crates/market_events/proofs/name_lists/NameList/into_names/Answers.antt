@@ -6,8 +6,8 @@ use Rattle.market_events.proofs.NamedCells.Names.{rising_differ}
 use Rattle.market_events.proofs.NamedCells.Keyed.{map-same}
 use Rattle.market_events.proofs.name_lists.NameList.into_names.Goals as goal
 
-pub returns-clause-is : goal.returns-clause-is
-returns-clause-is c =
+pub returns-clause-same : goal.returns-clause-same
+returns-clause-same c =
     let all : map (λ e. e) c.loop-name.yielded ≡ c.self.inside.names.keys = search (rules, iter_end) in
     c.loop-name.invariant ∙ sym (map-same c.loop-name.yielded) ∙ all ∙ c.self.view_is
 

@@ -3,7 +3,7 @@ use Rattle.market_events.specs.declared.events.Offer.TheVariants as offer
 use Rattle.market_history.specs.Blocks.{inputs_of, steps_of}
 use Rattle.market_history.specs.Stamps.{clock_before}
 use Rattle.market_node.specs.Cores.{CoreState}
-use Rattle.market_node.proofs.ServiceLaws.{fit_of, TookIt, took_clock, took_can, took_grown, made_node, made_committed, grown_core, can_make_all, core_taken}
+use Rattle.market_node.proofs.ServiceLaws.{fit_of, TookIt, took_clock, took_can, took_grown, made_node, made_committed, made_acknowledged, grown_core, can_make_all, core_taken}
 use Rattle.market_node.proofs.node_core.NodeCore.take.Goals as goal
 
 pub make_all-requires-clause-each : goal.make_all-requires-clause-each
@@ -61,4 +61,5 @@ returns-clause-taken g c = λ takes.
     grown_core old c.make_all.new.recorder c.args.self.now event c.self.view_is
     (made_node old c.reserve.new.self c.take.new.self event c.in_ok-taken.taken (max old.room 9) (c.reserve.new.self.room - 1) it c.accept.new.outs c.make_all.new.recorder rest c.make_all.ensures)
     (made_committed old c.reserve.new.self c.take.new.self event c.in_ok-taken.taken (max old.room 9) (c.reserve.new.self.room - 1) it c.accept.new.outs c.make_all.new.recorder rest c.make_all.ensures)
+    (made_acknowledged old c.reserve.new.self c.take.new.self event c.in_ok-taken.taken (max old.room 9) (c.reserve.new.self.room - 1) it c.accept.new.outs c.make_all.new.recorder rest c.make_all.ensures)
     (took_grown old c.reserve.new.self c.take.new.self event c.in_ok-taken.taken (max old.room 9) (c.reserve.new.self.room - 1) it role c.accept.new.outs c.make_all.new.recorder rest c.self.invariant.node made c.make_all.ensures)

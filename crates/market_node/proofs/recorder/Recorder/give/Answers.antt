@@ -1,5 +1,6 @@
-use Rattle.std.proofs.Common.{◌+◌, arith}
+use Rattle.std.proofs.Common.{◌+◌, refl, arith}
 use Rattle.market_events.specs.declared.events.What.TheVariants.{Given}
+use Rattle.market_node.proofs.GrownLaws.{sending_quiet, settled_still}
 use Rattle.market_node.proofs.NoteLaws.{HaveRoom-less}
 use Rattle.market_node.proofs.RecordLaws.{at_most-push, entry_at, notes_given}
 use Rattle.market_node.proofs.recorder.Recorder.give.Goals as goal
@@ -15,4 +16,8 @@ invariant_of-self c =
       committed = at_most-push old.journal.entries new.entries (entry_at (old.clock + 1) (Given c.args.request)) old.committed c.write.ensures.entries c.self.invariant.committed;
       spared = omega (arith, c.write.ensures.spare, c.self.invariant.spared);
       rooms = HaveRoom-less old.lists old.room c.self.invariant.rooms;
+      senders = sending_quiet old.journal.node new.node old.journal.entries new.entries (entry_at (old.clock + 1) (Given c.args.request)) old.committed c.write.ensures.node c.write.ensures.entries c.self.invariant.committed
+          old.room old.senders (λ link. refl) c.self.invariant.senders;
+      settled = settled_still old.journal.node new.node old.journal.entries new.entries (entry_at (old.clock + 1) (Given c.args.request)) old.committed c.write.ensures.node c.write.ensures.entries c.self.invariant.committed
+          old.settled c.self.invariant.settled;
     }

@@ -1,4 +1,4 @@
-use Rattle.std.proofs.Common.{rules, ◌≡◌, ◌+◌, ◌^◌, ◌<◌, length, ap, sym, ◌∙◌, arith}
+use Rattle.std.proofs.Common.{rules, ◌≡◌, ◌+◌, ◌^◌, ◌<◌, length, ap, sym, ◌∙◌, refl, arith}
 use Rattle.market_events.specs.declared.events.Offer.TheVariants as offer
 use Rattle.market_events.specs.declared.events.What.TheVariants.{Taken}
 use Rattle.market_events.specs.Links.{receiver_of}
@@ -6,6 +6,7 @@ use Rattle.market_events.specs.Offers.{offer_of}
 use Rattle.market_history.specs.Causality.{events_taken}
 use Rattle.market_history.specs.Stamps.{clock_before}
 use Rattle.market_node.specs.Records.{RecordState}
+use Rattle.market_node.proofs.GrownLaws.{sending_quiet, settled_still}
 use Rattle.market_node.proofs.NoteLaws.{HaveRoom-less}
 use Rattle.market_node.proofs.RecordLaws.{at_most-push, entry_at, notes_taken, taken_entry}
 use Rattle.market_node.proofs.recorder.Recorder.take.Goals as goal
@@ -39,4 +40,8 @@ invariant_of-self c =
       committed = at_most-push old.journal.entries new.entries (entry_at (c.max.result + 1) (Taken c.args.event)) old.committed c.write.ensures.entries c.self.invariant.committed;
       spared = omega (arith, c.write.ensures.spare, c.self.invariant.spared);
       rooms = HaveRoom-less old.lists old.room c.self.invariant.rooms;
+      senders = sending_quiet old.journal.node new.node old.journal.entries new.entries (entry_at (c.max.result + 1) (Taken c.args.event)) old.committed c.write.ensures.node c.write.ensures.entries c.self.invariant.committed
+          old.room old.senders (λ link. refl) c.self.invariant.senders;
+      settled = settled_still old.journal.node new.node old.journal.entries new.entries (entry_at (c.max.result + 1) (Taken c.args.event)) old.committed c.write.ensures.node c.write.ensures.entries c.self.invariant.committed
+          old.settled c.self.invariant.settled;
     }

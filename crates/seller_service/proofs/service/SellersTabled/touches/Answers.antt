@@ -65,7 +65,7 @@ returns-clause-covers c =
     covers names.items c.args.self.now steps c.args._from c.args.body.now stands fit
     (subst (λ (tables : SellerTables). AreTold names.items (changes_at tables.ledgers) (brought_by (lines_at tables.invoices) c.args.body.now)) c.self.view_is
     (subst (λ ns. AreTold ns (changes_at c.self.inside.ledgers) (brought_by (lines_at c.self.inside.invoices) c.args.body.now)) (sym e) (told c)))
-    name other) c.into_names.result c.into_names.ensures.is
+    name other) c.into_names.result c.into_names.ensures.same
 
 -- they are few
 few : (c : goal.After-drop-changes-2) → length c.match-body.names ≤ most_touched c.args.body.now
@@ -96,7 +96,7 @@ few c =
     ]
 
 pub returns-clause-few : goal.returns-clause-few
-returns-clause-few c = if_ok (λ names e. omega (arith, names.ok.0, ap length e, few c)) c.into_names.result c.into_names.ensures.is
+returns-clause-few c = if_ok (λ names e. omega (arith, names.ok.0, ap length e, few c)) c.into_names.result c.into_names.ensures.same
 
 -- a name of the changes is of a table that the body may change
 changed : (c : goal.After-drop-changes-2) (name : CellName) → is_named c.put_change_names.new.names name ≡ true → may_change Role.Seller c.args.body.now name ≡ true
@@ -134,4 +134,4 @@ tabled c name here =
     either (inr y) f g = g y
 
 pub returns-clause-tables : goal.returns-clause-tables
-returns-clause-tables c = if_ok (λ names e name here. tabled c name (sym (ap (λ ns. is_named ns name) e) ∙ here)) c.into_names.result c.into_names.ensures.is
+returns-clause-tables c = if_ok (λ names e name here. tabled c name (sym (ap (λ ns. is_named ns name) e) ∙ here)) c.into_names.result c.into_names.ensures.same

@@ -1,8 +1,7 @@
-use Rattle.std.proofs.Common.{rules, ◌≡◌, is_some, unwrap_or, if◌then◌else◌, ap, sym, subst, ◌∙◌}
+use Rattle.std.proofs.Common.{rules, is_some, unwrap_or, if◌then◌else◌, ap, sym, subst, ◌∙◌}
 use Rattle.market_events.specs.Requests.{same_key}
 use Rattle.stock_service.specs.Amounts.{Amounts, no_pieces, amounts_after, CanAct}
 use Rattle.stock_service.specs.Tables.{amounts_at, has_at}
-use Rattle.stock_service.proofs.Acts.{cannot_act}
 use Rattle.stock_service.proofs.Tables.{amounts_changed, has_there}
 use Rattle.stock_service.proofs.levels.Levels.apply_one.Goals as goal
 
