@@ -27,6 +27,7 @@ use Rattle.market_events.specs.Steps.{Step}
 use Rattle.market_events.proofs.Steps.Taken.{is_new-push, changes_taken-push, changes_taken-same}
 use Rattle.cart_replica.specs.Copy.{look_at, IsCopyOf}
 use Rattle.cart_service.specs.Holds.{Holds}
+use Rattle.service_driving.specs.declared.lane.TheConstants.{LANE}
 use Rattle.basket_tests.specs.CartTrials.{trial_id, IsTrialOf, IsTrial}
 
 pub start : (carts : CartTables) (shown : List (ProductKey × Look)) → Holds carts [] → IsCopyOf shown [] → IsTrial carts shown 0
@@ -88,22 +89,25 @@ pub goes : (old new : CartTables) (shown : List (ProductKey × Look)) (next : �
 goes old new shown next from b (Ok x) fit on still other shows trial = goes_on old new shown shown next from b fit on other shows trial
 goes old new shown next from b (Err e) fit on still other shows trial = stays old new shown shown next from b still trial
 
--- a request of the next number
+-- a request of the next number, and the link that it comes on
 abbrev pub trial_asked : ℕ → Ask → Body
 trial_asked number what = body.Asked (record { id = trial_id number; ask = what })
 
+abbrev pub from_lane : Link
+from_lane = link.Asked LANE cart_node
+
 pub fits_asked : (carts : CartTables) (shown : List (ProductKey × Look)) (next : ℕ) (what : Ask) → next < 1000 → ask_formed what ≡ true → service_by_ask what ≡ cart_node
-    → (steps : List Step) → IsTrialOf carts shown next steps → fits Role.Cart steps (link.Asked 7 0) (trial_asked next what) ≡ true
+    → (steps : List Step) → IsTrialOf carts shown next steps → fits Role.Cart steps from_lane (trial_asked next what) ≡ true
 fits_asked carts shown next what small formed for_cart steps is =
-    fits_from steps (link.Asked 7 0) (trial_asked next what) (omega (arith, is.few))
+    fits_from steps from_lane (trial_asked next what) (omega (arith, is.few))
     (let id : id_formed next ≡ true = grind (arith, nat_tests) in rw (id, formed) refl) refl (rw for_cart refl) (is.new next (omega arith))
 
 pub asks_other : (next : ℕ) (what : Ask) (number : ℕ) → next + 1 ≤ number → asks (trial_id number) (trial_asked next what) ≡ false
 asks_other next what number above = grind (arith, nat_tests)
 
 pub shows_asked : (carts : CartTables) (shown : List (ProductKey × Look)) (next : ℕ) (what : Ask) (steps : List Step) → IsTrialOf carts shown next steps
-    → IsCopyOf shown (changes_taken (with_step Role.Cart steps (link.Asked 7 0) (trial_asked next what)))
-shows_asked carts shown next what steps is = subst (IsCopyOf shown) (sym (changes_taken-same steps (step_of Role.Cart steps (link.Asked 7 0) (trial_asked next what)) refl)) is.shows
+    → IsCopyOf shown (changes_taken (with_step Role.Cart steps from_lane (trial_asked next what)))
+shows_asked carts shown next what steps is = subst (IsCopyOf shown) (sym (changes_taken-same steps (step_of Role.Cart steps from_lane (trial_asked next what)) refl)) is.shows
 
 -- a change that is due
 pub fits_changed : (carts : CartTables) (shown : List (ProductKey × Look)) (next : ℕ) (key : ProductKey) (version : ℕ) (change : Change) → next < 1000

@@ -8,21 +8,23 @@ use Rattle.market_events.specs.declared.links.Link.TheVariants as link
 use Rattle.market_events.specs.declared.requests.Ask.{Ask}
 use Rattle.market_events.specs.declared.requests.Ask.TheVariants as ask
 use Rattle.market_events.specs.declared.roles.Role.{Role}
+use Rattle.market_events.specs.Links.{product_node}
 use Rattle.market_events.specs.Services.{fits}
 use Rattle.market_events.specs.Standing.{with_step}
 use Rattle.market_events.specs.Steps.{Step}
+use Rattle.service_driving.specs.declared.lane.TheConstants.{LANE}
 
 abbrev pub asked : ℕ → Ask → Body
 asked n a = body.Asked (record { id = record { caller = 7; number = n }; ask = a })
 
-abbrev pub from_seven : Link
-from_seven = link.Asked 7 1
+abbrev pub from_lane : Link
+from_lane = link.Asked LANE product_node
 
 abbrev pub after : List Step → ℕ → Ask → List Step
-after steps n a = with_step Role.Product steps from_seven (asked n a)
+after steps n a = with_step Role.Product steps from_lane (asked n a)
 
 abbrev pub Fits : List Step → ℕ → Ask → Type 0
-Fits steps n a = fits Role.Product steps from_seven (asked n a) ≡ true
+Fits steps n a = fits Role.Product steps from_lane (asked n a) ≡ true
 
 abbrev pub mug : ProductKey
 mug = record { seller = 5; product = 10 }

@@ -12,6 +12,7 @@ use Rattle.market_events.specs.declared.replies.Rule.TheVariants as rule
 use Rattle.market_events.specs.declared.requests.Ask.TheVariants as ask
 use Rattle.market_events.specs.Examples.{mug, cup, an_id, makes, quiet, request, answer}
 use Rattle.market_events.specs.ExamplesStock.{hears, stocks}
+use Rattle.market_events.specs.Links.{stock_node}
 use Rattle.market_events.specs.declared.roles.Role.{Role}
 use Rattle.market_events.specs.Services.{Follows, fits, answers}
 use Rattle.market_events.specs.Standing.{Stands, CanTake, with_step}
@@ -19,19 +20,6 @@ use Rattle.market_events.specs.Steps.{Step}
 use Rattle.stock_service.specs.declared.service.Stocks.{Stocks}
 use Rattle.basket_tests.specs.StockExamples.{four_pieces, mug_and_cup}
 use Rattle.stock_service.specs.Holds.{Holds}
-
--- a step that follows can be taken
-pub can_take : (kept : Stocks) (steps : List Step) (s : Step) (b : Body) → Stands Role.Stock Holds kept steps → Follows Role.Stock steps s → b ≡ s.body → CanTake Role.Stock Holds kept s.from b
-can_take kept steps s b stands follows is = ∣ (steps, stands, ap (fits Role.Stock steps s.from) is ∙ follows.fit) ∣₁
-
--- and was
-pub took : (kept now : Stocks) (steps : List Step) (s : Step) (b : Body) → Stands Role.Stock Holds kept steps → Follows Role.Stock steps s → b ≡ s.body
-    → ((steps : List Step) → Stands Role.Stock Holds kept steps → fits Role.Stock steps s.from b ≡ true → Stands Role.Stock Holds now (with_step Role.Stock steps s.from b))
-    → Stands Role.Stock Holds now (steps ++ s ∷ [])
-took kept now steps s b stands follows is on =
-    let alike : (λ (b : Body). with_step Role.Stock steps s.from b) b ≡ steps ++ s ∷ [] =
-    λ i. steps ++ (let t : Step = record { from = s.from; body = is i; made = (ap (answers Role.Stock steps s.from) is ∙ sym follows.made) i } in t) ∷ [] in
-    subst (Stands Role.Stock Holds now) alike (on steps stands (ap (fits Role.Stock steps s.from) is ∙ follows.fit))
 
 -- the steps of the tests
 abbrev pub mug_created : Step
@@ -69,10 +57,10 @@ abbrev pub paid : Step
 paid = quiet (PAYMENT_TO_STOCK, body.Confirmed (an_id 7 8) 7 (mug_and_cup 2 1) 3100)
 
 abbrev pub mugs_are : ℕ → ℕ → Step
-mugs_are here held = makes (request 2 3 (ask.Level mug)) (answer 2 3 (reply.Level here held) ∷ [])
+mugs_are here held = makes (request stock_node 3 (ask.Level mug)) (answer stock_node 3 (reply.Level here held) ∷ [])
 
 abbrev pub cups_are : ℕ → ℕ → Step
-cups_are here held = makes (request 2 4 (ask.Level cup)) (answer 2 4 (reply.Level here held) ∷ [])
+cups_are here held = makes (request stock_node 4 (ask.Level cup)) (answer stock_node 4 (reply.Level here held) ∷ [])
 
 pub follows_short : Follows Role.Stock four_pieces short
 unfolding fits answers
@@ -127,7 +115,7 @@ unfolding fits answers
 follows_most = record { fit = refl; made = refl }
 
 abbrev pub over : Step
-over = makes (request 2 2 (ask.Stock mug 1)) (answer 2 2 (reply.Refused rule.StockOver) ∷ [])
+over = makes (request stock_node 2 (ask.Stock mug 1)) (answer stock_node 2 (reply.Refused rule.StockOver) ∷ [])
 
 pub follows_over : Follows Role.Stock (mug_created ∷ stocks 1 mug 1000000000 ∷ []) over
 unfolding fits answers

@@ -11,14 +11,20 @@ use cart_replica::ProductCopy;
 use cart_service::Carts;
 use market_amounts::{Cents, ProductKey, Quantity, RequestId};
 use market_events::{
-    Ask, Body, Cell, CellName, Change, Link, Look, Outs, PRODUCT_TO_CART, Reply, Request, Tabled,
+    Ask, Body, Cell, CellName, Change, Link, Look, Outs, PRODUCT_TO_CART, Reply, Request, Role,
+    Tabled,
 };
-use service_driving::step;
+use service_driving::{LANE, step};
 use std::alloc::Global;
 use std::process::Abort;
 use std::test::Fail;
 
 const MOST: u32 = 1000;
+
+// The links on which the lane asks the cart, and is told.
+const FROM_LANE: Link = Link::Asked(LANE, Role::Cart as u8);
+
+const TO_LANE: Link = Link::Told(Role::Cart as u8, LANE);
 
 // A cart, what it shows of the products, and the number of its next request, of caller 7.
 #[derive(Drop)]
@@ -78,7 +84,7 @@ impl Trial {
         };
         self.next += 1;
         let body = Body::Asked(Request { id, ask });
-        let outs = step(&mut self.carts, self.alloc, Link::Asked(7, 0), &body)?;
+        let outs = step(&mut self.carts, self.alloc, FROM_LANE, &body)?;
         only(rt, outs)
     }
 
@@ -91,7 +97,7 @@ impl Trial {
             number: self.next,
         };
         let body = Body::Asked(Request { id, ask });
-        Ok(self.carts.touches(Link::Asked(7, 0), &body)?)
+        Ok(self.carts.touches(FROM_LANE, &body)?)
     }
 
     pub fn cells(&self) -> Result<Vec<Cell>, Fail> {
@@ -105,7 +111,7 @@ impl Trial {
     // Takes a request, and gives the reply that is told.
     pub fn reply(&mut self, rt: &impl Abort, ask: Ask) -> Result<Reply, Fail> {
         let (link, body) = self.ask(rt, ask)?;
-        assert_eq!(rt; link, Link::Told(0, 7));
+        assert_eq!(rt; link, TO_LANE);
         match body {
             Body::Told(_, reply) => Ok(reply),
             _ => Err(Fail::from("no reply")),

@@ -3,6 +3,7 @@
 
 ghost use Rattle.std.specs.Prelude.{◌≡◌, List, true, IfOk};
 ghost use Rattle.market_events.specs.Examples.{request};
+ghost use Rattle.market_events.specs.Links.{product_node};
 ghost use Rattle.market_events.specs.Services.{fits};
 ghost use Rattle.market_events.specs.Standing.{Stands, CanTake, with_step};
 ghost use Rattle.market_events.specs.Steps.{Step};
@@ -10,15 +11,18 @@ ghost use Rattle.market_events.specs.Steps.{Step};
 use market_amounts::{Cents, ProductKey, RequestId};
 use market_events::{
     Ask, Body, Cell, CellName, Change, Link, Outs, PRODUCT_TO_CART, PRODUCT_TO_STOCK, Reply,
-    Request, Rule, Tabled,
+    Request, Role, Rule, Tabled,
 };
 use product_service::Products;
-use service_driving::step;
+use service_driving::{LANE, step};
 use std::alloc::{AllocError, Global};
 use std::process::Abort;
 use std::test::Fail;
 
-const LINK: Link = Link::Asked(7, 1);
+// The links on which the lane asks the products, and is told.
+const FROM_LANE: Link = Link::Asked(LANE, Role::Product as u8);
+
+const TO_LANE: Link = Link::Told(Role::Product as u8, LANE);
 
 const MUG: ProductKey = ProductKey {
     seller: 5,
@@ -32,7 +36,7 @@ const BOWL: ProductKey = ProductKey {
 
 // The request of caller 7 with this number.
 fn asked(number: u32, ask: &Ask) -> Body
-    ensures { result ≡ (request 1 number ask.now).1 }
+    ensures { result ≡ (request product_node number ask.now).1 }
 {
     let id = RequestId { caller: 7, number };
     Body::Asked(Request { id, ask: *ask })
@@ -44,13 +48,13 @@ fn tell<S: Tabled>(
     alloc: Global,
     body: &Body,
 ) -> Result<(Vec<CellName>, Vec<Cell>), AllocError>
-    requires { CanTake S.role S.holds service.old LINK body.now }
+    requires { CanTake S.role S.holds service.old FROM_LANE body.now }
     ensures { IfOk result (λ _. (steps : List Step) → Stands S.role S.holds service.old steps
-        → fits S.role steps LINK body.now ≡ true
-        → Stands S.role S.holds service.new (with_step S.role steps LINK body.now)) }
+        → fits S.role steps FROM_LANE body.now ≡ true
+        → Stands S.role S.holds service.new (with_step S.role steps FROM_LANE body.now)) }
 {
-    let names = service.touches(LINK, body)?;
-    step(service, alloc, LINK, body)?;
+    let names = service.touches(FROM_LANE, body)?;
+    step(service, alloc, FROM_LANE, body)?;
     let cells = service.cells()?;
     Ok((names, cells))
 }
@@ -67,7 +71,7 @@ fn assert_next(rt: &impl Abort, outs: &mut Outs, link: Link, body: &Body) -> Res
 // The request with this number was told the reply, and nothing else was made.
 fn assert_told(rt: &impl Abort, outs: &mut Outs, number: u32, reply: Reply) -> Result<(), Fail> {
     let id = RequestId { caller: 7, number };
-    assert_next(rt, outs, Link::Told(1, 7), &Body::Told(id, reply))?;
+    assert_next(rt, outs, TO_LANE, &Body::Told(id, reply))?;
     assert!(rt; outs.is_empty());
     Ok(())
 }
@@ -98,11 +102,11 @@ fn a_second_creation_and_a_price_of_nothing_are_refused(rt: HostRuntime) -> Resu
     let freight = Cents::try_new(0)?;
     let create = Ask::Create(MUG, price, freight);
     let create_mug = asked(1, &create);
-    let first = step(&mut products, rt.alloc(), LINK, &create_mug)?;
+    let first = step(&mut products, rt.alloc(), FROM_LANE, &create_mug)?;
     let create_again = asked(2, &create);
-    let second = step(&mut products, rt.alloc(), LINK, &create_again)?;
+    let second = step(&mut products, rt.alloc(), FROM_LANE, &create_again)?;
     let price_bowl = asked(3, &Ask::Price(BOWL, price));
-    let third = step(&mut products, rt.alloc(), LINK, &price_bowl)?;
+    let third = step(&mut products, rt.alloc(), FROM_LANE, &price_bowl)?;
     let created = Change::Created(price, freight);
     assert_changed(&rt, first, 1, 1, created, Reply::Created(1))?;
     assert_refused(&rt, second, 2, Rule::Exists)?;
@@ -116,13 +120,13 @@ fn versions_go_on_after_a_deletion(rt: HostRuntime) -> Result<(), Fail> {
     let freight = Cents::try_new(0)?;
     let create = Ask::Create(MUG, price, freight);
     let create_mug = asked(1, &create);
-    step(&mut products, rt.alloc(), LINK, &create_mug)?;
+    step(&mut products, rt.alloc(), FROM_LANE, &create_mug)?;
     let delete_mug = asked(2, &Ask::Delete(MUG));
-    let second = step(&mut products, rt.alloc(), LINK, &delete_mug)?;
+    let second = step(&mut products, rt.alloc(), FROM_LANE, &delete_mug)?;
     let price_mug = asked(3, &Ask::Price(MUG, price));
-    let third = step(&mut products, rt.alloc(), LINK, &price_mug)?;
+    let third = step(&mut products, rt.alloc(), FROM_LANE, &price_mug)?;
     let create_again = asked(4, &create);
-    let fourth = step(&mut products, rt.alloc(), LINK, &create_again)?;
+    let fourth = step(&mut products, rt.alloc(), FROM_LANE, &create_again)?;
     let created = Change::Created(price, freight);
     assert_changed(&rt, second, 2, 2, Change::Deleted, Reply::Deleted(2))?;
     assert_refused(&rt, third, 3, Rule::Gone)?;

@@ -3,6 +3,7 @@
 ghost use Rattle.std.specs.Prelude.{◌≡◌, IfOk};
 ghost use Rattle.market_events.specs.Examples.{a_line, an_id, request};
 ghost use Rattle.market_events.specs.declared.roles.Role.{Role};
+ghost use Rattle.market_events.specs.Links.{stock_node};
 ghost use Rattle.market_events.specs.Standing.{Stands};
 ghost use Rattle.basket_tests.specs.StockExamples.{four_pieces, mug_and_cup};
 ghost use Rattle.stock_service.specs.Holds.{Holds};
@@ -10,9 +11,10 @@ ghost use Rattle.stock_service.specs.Holds.{Holds};
 use market_amounts::{Cents, List, ProductKey, Quantity, RequestId};
 use market_events::{
     Ask, Body, CART_TO_STOCK, Cell, Change, Link, Outs, PAYMENT_TO_STOCK, PRODUCT_TO_STOCK,
-    PayRule, PricedLine, Reply, Request, Rule, STOCK_TO_CART, STOCK_TO_ORDER, StockRule, Tabled,
+    PayRule, PricedLine, Reply, Request, Role, Rule, STOCK_TO_CART, STOCK_TO_ORDER, StockRule,
+    Tabled,
 };
-use service_driving::step;
+use service_driving::{LANE, step};
 use std::alloc::Global;
 use std::test::Fail;
 use stock_service::Stocks;
@@ -32,6 +34,11 @@ const CHECKOUT: RequestId = RequestId {
     number: 8,
 };
 
+// The links on which the lane asks stock, and is told.
+const FROM_LANE: Link = Link::Asked(LANE, Role::Stock as u8);
+
+const TO_LANE: Link = Link::Told(Role::Stock as u8, LANE);
+
 // A product that is new.
 fn created(key: ProductKey) -> Result<Body, Fail>
     ensures { IfOk result (λ body. body ≡ Body.Changed key 1 (Change.Created 1000 50)) }
@@ -43,7 +50,7 @@ fn created(key: ProductKey) -> Result<Body, Fail>
 
 // The request of caller 7 with this number.
 fn asked(number: u32, ask: Ask) -> Body
-    ensures { result ≡ (request 2 number ask).1 }
+    ensures { result ≡ (request stock_node number ask).1 }
 {
     let id = RequestId { caller: 7, number };
     Body::Asked(Request { id, ask })
@@ -52,7 +59,7 @@ fn asked(number: u32, ask: Ask) -> Body
 // What its lane is told.
 fn told(number: u32, reply: Reply) -> (Link, Body) {
     let id = RequestId { caller: 7, number };
-    (Link::Told(2, 7), Body::Told(id, reply))
+    (TO_LANE, Body::Told(id, reply))
 }
 
 // A line of so many pieces.
@@ -93,9 +100,9 @@ fn with_pieces(alloc: Global) -> Result<Stocks, Fail>
     let cup = created(CUP)?;
     step(&mut stocks, alloc, PRODUCT_TO_STOCK, &cup)?;
     let mugs = asked(1, Ask::Stock(MUG, 3));
-    step(&mut stocks, alloc, Link::Asked(7, 2), &mugs)?;
+    step(&mut stocks, alloc, FROM_LANE, &mugs)?;
     let cups = asked(2, Ask::Stock(CUP, 1));
-    step(&mut stocks, alloc, Link::Asked(7, 2), &cups)?;
+    step(&mut stocks, alloc, FROM_LANE, &cups)?;
     Ok(stocks)
 }
 
@@ -106,9 +113,9 @@ fn short_checkout(alloc: Global) -> Result<(Outs, Outs, Outs), Fail> {
     let reserve = Body::Reserve(CHECKOUT, 7, pieces);
     let made = step(&mut stocks, alloc, CART_TO_STOCK, &reserve)?;
     let mug = asked(3, Ask::Level(MUG));
-    let mugs = step(&mut stocks, alloc, Link::Asked(7, 2), &mug)?;
+    let mugs = step(&mut stocks, alloc, FROM_LANE, &mug)?;
     let cup = asked(4, Ask::Level(CUP));
-    let cups = step(&mut stocks, alloc, Link::Asked(7, 2), &cup)?;
+    let cups = step(&mut stocks, alloc, FROM_LANE, &cup)?;
     Ok((made, mugs, cups))
 }
 
@@ -119,9 +126,9 @@ fn whole_checkout(alloc: Global) -> Result<(Outs, Outs, Outs), Fail> {
     let reserve = Body::Reserve(CHECKOUT, 7, pieces);
     let made = step(&mut stocks, alloc, CART_TO_STOCK, &reserve)?;
     let mug = asked(3, Ask::Level(MUG));
-    let mugs = step(&mut stocks, alloc, Link::Asked(7, 2), &mug)?;
+    let mugs = step(&mut stocks, alloc, FROM_LANE, &mug)?;
     let cup = asked(4, Ask::Level(CUP));
-    let cups = step(&mut stocks, alloc, Link::Asked(7, 2), &cup)?;
+    let cups = step(&mut stocks, alloc, FROM_LANE, &cup)?;
     Ok((made, mugs, cups))
 }
 
@@ -134,9 +141,9 @@ fn failed_checkout(alloc: Global) -> Result<(Outs, Outs, Outs), Fail> {
     let failed = Body::Failed(CHECKOUT, 7, PayRule::NoCard);
     let nothing = step(&mut stocks, alloc, PAYMENT_TO_STOCK, &failed)?;
     let mug = asked(3, Ask::Level(MUG));
-    let mugs = step(&mut stocks, alloc, Link::Asked(7, 2), &mug)?;
+    let mugs = step(&mut stocks, alloc, FROM_LANE, &mug)?;
     let cup = asked(4, Ask::Level(CUP));
-    let cups = step(&mut stocks, alloc, Link::Asked(7, 2), &cup)?;
+    let cups = step(&mut stocks, alloc, FROM_LANE, &cup)?;
     Ok((nothing, mugs, cups))
 }
 
@@ -150,9 +157,9 @@ fn paid_checkout(alloc: Global) -> Result<(Outs, Outs, Outs), Fail> {
     let confirmed = Body::Confirmed(CHECKOUT, 7, paid, 3100);
     let nothing = step(&mut stocks, alloc, PAYMENT_TO_STOCK, &confirmed)?;
     let mug = asked(3, Ask::Level(MUG));
-    let mugs = step(&mut stocks, alloc, Link::Asked(7, 2), &mug)?;
+    let mugs = step(&mut stocks, alloc, FROM_LANE, &mug)?;
     let cup = asked(4, Ask::Level(CUP));
-    let cups = step(&mut stocks, alloc, Link::Asked(7, 2), &cup)?;
+    let cups = step(&mut stocks, alloc, FROM_LANE, &cup)?;
     Ok((nothing, mugs, cups))
 }
 
@@ -180,9 +187,9 @@ fn full_stock(alloc: Global) -> Result<(Outs, Outs), Fail> {
     let mug = created(MUG)?;
     step(&mut stocks, alloc, PRODUCT_TO_STOCK, &mug)?;
     let most = asked(1, Ask::Stock(MUG, 1_000_000_000));
-    let all = step(&mut stocks, alloc, Link::Asked(7, 2), &most)?;
+    let all = step(&mut stocks, alloc, FROM_LANE, &most)?;
     let more = asked(2, Ask::Stock(MUG, 1));
-    let over = step(&mut stocks, alloc, Link::Asked(7, 2), &more)?;
+    let over = step(&mut stocks, alloc, FROM_LANE, &more)?;
     Ok((all, over))
 }
 

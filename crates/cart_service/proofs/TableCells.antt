@@ -1,12 +1,10 @@
 -- The cells of the tables are those of the steps.
-use Rattle.std.proofs.Common.{◌≡◌, ℕ, Bool, true, false, cond, ◌&&◌, ◌||◌, ◌==◌, List, [], ◌∷◌, ◌++◌, map, filter_map, Option, Some, None, is_some, unwrap_or, if◌then◌else◌, refl, ap, ap₂, sym, ◌∙◌, arith, eqb-true, eq-eqb}
+use Rattle.std.proofs.Common.{◌≡◌, ℕ, Bool, true, false, cond, ◌&&◌, ◌||◌, ◌==◌, List, [], ◌∷◌, ◌++◌, map, filter_map, Option, Some, None, is_some, unwrap_or, if◌then◌else◌, refl, ap, ap₂, sym, ◌∙◌, eqb-true, eq-eqb}
 use Rattle.std.specs.BTreeMap.{is_at}
 use Rattle.std.specs.List.{cons_option, list_any, list_all, flat_map}
-use Rattle.std.specs.Map.{keys_of, lookup}
+use Rattle.std.specs.Map.{keys_of}
 use Rattle.std.specs.Option.{option_or}
-use Rattle.std.specs.Ordering.{nat_cmp}
 use Rattle.std.proofs.lemmas.Bool.{leb-true}
-use Rattle.std.proofs.lemmas.Bool.Decides.{nat_tests}
 use Rattle.std.proofs.lemmas.List.Elements.{filter_map-append}
 use Rattle.std.proofs.lemmas.List.Folds.{list_any-append}
 use Rattle.market_amounts.specs.declared.keys.ProductKey.{ProductKey}
@@ -21,6 +19,7 @@ use Rattle.market_events.specs.CellLists.{cells_by, key_cell, Within, put_all, e
 use Rattle.market_events.specs.CellNames.{basket_name}
 use Rattle.market_events.specs.Cells.{basket_cell_asked, basket_cell, held_text, look_cells, all_cells, cells_of}
 use Rattle.market_events.specs.Copies.{last_some}
+use Rattle.market_events.specs.Entries.{entry_at}
 use Rattle.market_events.specs.Formed.{id_formed, key_formed, quantity_formed, cents_formed, ask_formed, request_id_formed, body_formed}
 use Rattle.market_events.specs.Requests.{same_key}
 use Rattle.market_events.specs.declared.roles.Role.{Role}
@@ -31,6 +30,7 @@ use Rattle.market_events.specs.WellFormed.{id_max}
 use Rattle.market_events.proofs.Steps.Baskets.{find-basket_of}
 use Rattle.market_events.proofs.NamedCells.Named.{value_at}
 use Rattle.market_events.proofs.NamedCells.Spelled.{IsBasketKey}
+use Rattle.market_events.proofs.Values.Entries.{entry-among}
 use Rattle.market_events.proofs.Values.Formed.{key_decides}
 use Rattle.market_events.proofs.Values.Keys.{eq_by_key_cmp, find-lookup}
 use Rattle.market_events.proofs.NamedCells.Keyed.{is_among, HasAll, same_line_of, basket_naming, cell_of_key, cells_by-each, alike, last_some-append, entries_told}
@@ -162,20 +162,7 @@ steps_within steps run line some =
     let both = lines_formed (taken_bodies steps) (taken_formed Role.Cart steps run) line (steps_all steps line some) in
     (leb-true line.0 id_max both.0, (key_decides line.1).0 both.1)
 
--- a look-up that finds something finds one of the keys
-found_customer : {X : Type 0} (es : List (ℕ × X)) (c : ℕ) (v : X) → lookup (is_at (nat_cmp c)) es ≡ Some v → list_any (λ d. c == d) (keys_of es) ≡ true
-found_customer [] c v found = cc
-found_customer (e ∷ es) c v found = either (is_at (nat_cmp c) e.0) refl (λ rest. found_customer es c v rest) found
-  where
-    test : (a b : ℕ) → is_at (nat_cmp a) b ≡ (a == b)
-    test a b = grind (arith, nat_tests)
-
-    either : (b : Bool) → is_at (nat_cmp c) e.0 ≡ b → (lookup (is_at (nat_cmp c)) es ≡ Some v → list_any (λ d. c == d) (keys_of es) ≡ true)
-        → cond b (Some e.1) (lookup (is_at (nat_cmp c)) es) ≡ Some v → ((c == e.0) || list_any (λ d. c == d) (keys_of es)) ≡ true
-    either true at rest found = rw (sym (test c e.0) ∙ at) refl
-    either false at rest found = or_right (c == e.0) (rest found)
-
--- the same of the lines of a customer
+-- a look-up among the lines of a customer that finds something finds one of the keys
 pub found_key : (es : List (ProductKey × Held)) (k : ProductKey) (v : Held) → line_held es k ≡ Some v → list_any (λ q. same_key k q) (keys_of es) ≡ true
 found_key [] k v found = cc
 found_key (e ∷ es) k v found = either (is_at (key_cmp k) e.0) refl (λ rest. found_key es k v rest) found
@@ -217,18 +204,18 @@ line_keys baskets = flat_map (λ customer. keys_in customer (lines_at baskets cu
 
 -- each line that the baskets have a text of is among their lines
 pub baskets_all : (baskets : List (ℕ × List (ProductKey × Held))) → HasAll same_line_of (basket_text_in baskets) (line_keys baskets)
-baskets_all baskets line some = by (lookup (is_at (nat_cmp line.0)) baskets) refl some
+baskets_all baskets line some = by (entry_at baskets line.0) refl some
   where
-    inside : (lines : List (ProductKey × Held)) → lookup (is_at (nat_cmp line.0)) baskets ≡ Some lines → is_some (held_line_text lines line) ≡ true → is_among same_line_of (line_keys baskets) line ≡ true
+    inside : (lines : List (ProductKey × Held)) → entry_at baskets line.0 ≡ Some lines → is_some (held_line_text lines line) ≡ true → is_among same_line_of (line_keys baskets) line ≡ true
     inside lines found some = at (line_held lines line.1) refl some
       where
         at : (o : Option Held) → line_held lines line.1 ≡ o → is_some (held_text o) ≡ true → is_among same_line_of (line_keys baskets) line ≡ true
         at None is some = cc
         at (Some held) is some =
-            flat_among (λ customer. keys_in customer (lines_at baskets customer)) (keys_of baskets) line.0 line (found_customer baskets line.0 lines found)
+            flat_among (λ customer. keys_in customer (lines_at baskets customer)) (keys_of baskets) line.0 line (entry-among baskets line.0 lines found)
             (ap (λ (o : Option (List (ProductKey × Held))). is_among same_line_of (keys_in line.0 (unwrap_or o [])) line) found ∙ keys_among line.0 line.1 (keys_of lines) (found_key lines line.1 held is))
 
-    by : (o : Option (List (ProductKey × Held))) → lookup (is_at (nat_cmp line.0)) baskets ≡ o → is_some (held_line_text (unwrap_or o []) line) ≡ true → is_among same_line_of (line_keys baskets) line ≡ true
+    by : (o : Option (List (ProductKey × Held))) → entry_at baskets line.0 ≡ o → is_some (held_line_text (unwrap_or o []) line) ≡ true → is_among same_line_of (line_keys baskets) line ≡ true
     by None found some = cc
     by (Some lines) found some = inside lines found some
 

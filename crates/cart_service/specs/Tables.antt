@@ -1,9 +1,7 @@
 -- What the tables of the cart hold, and what a request leaves of them.
 use Rattle.std.specs.Prelude.{◌≡◌, ℕ, Bool, ◌==◌, ◌&&◌, not, nat_le, List, [], ◌∷◌, Option, Some, is_some}
 use Rattle.std.specs.Prelude.{length, filter, unwrap_or, option_map, if◌then◌else◌}
-use Rattle.std.specs.BTreeMap.{is_at, insert_entry}
-use Rattle.std.specs.Map.{lookup}
-use Rattle.std.specs.Ordering.{nat_cmp}
+use Rattle.std.specs.BTreeMap.{insert_entry}
 use Rattle.market_amounts.specs.declared.keys.ProductKey.{ProductKey}
 use Rattle.market_events.specs.declared.changes.Look.{Look}
 use Rattle.market_events.specs.declared.replies.UndoneRule.{UndoneRule}
@@ -15,6 +13,7 @@ use Rattle.market_events.specs.Looks.{is_live}
 use Rattle.market_events.specs.Requests.{same_key}
 use Rattle.market_events.specs.Steps.{key_cmp}
 use Rattle.market_events.specs.WellFormed.{most_lines}
+use Rattle.market_events.specs.Entries.{entry_at}
 use Rattle.cart_replica.specs.Copy.{look_at}
 
 -- the lines of a basket by rising key, and the baskets by rising customer
@@ -32,7 +31,7 @@ pub record CartTables : Type 0 where
 
 -- the lines of a customer, none where there is no basket
 abbrev pub lines_at : CustomerLines → ℕ → Lines
-lines_at baskets customer = unwrap_or (lookup (is_at (nat_cmp customer)) baskets) []
+lines_at baskets customer = unwrap_or (entry_at baskets customer) []
 
 -- the lines of other products
 abbrev pub without : ProductKey → Lines → Lines

@@ -4,6 +4,7 @@ ghost use Rattle.std.specs.Prelude.{◌≡◌, IfOk};
 ghost use Rattle.market_events.specs.Examples.{a_line, request, mug_reserved, mug_paid, mug_lines};
 ghost use Rattle.market_events.specs.ExamplesOrder.{mug_invoiced, two_lines};
 ghost use Rattle.market_events.specs.declared.roles.Role.{Role};
+ghost use Rattle.market_events.specs.Links.{order_node};
 ghost use Rattle.market_events.specs.Standing.{Stands};
 ghost use Rattle.checkout_tests.specs.OrderExamples.{greatest_lines, item_for, two_shipped, strange_cup};
 ghost use Rattle.order_service.specs.Holds.{Holds};
@@ -11,11 +12,11 @@ ghost use Rattle.order_service.specs.Holds.{Holds};
 use market_amounts::{Cents, List, ProductKey, Quantity, RequestId};
 use market_events::{
     Ask, Body, Ending, Item, Link, ORDER_TO_CART, ORDER_TO_PAYMENT, ORDER_TO_SELLER, OrderStatus,
-    Outs, PAYMENT_TO_ORDER, PayRule, PricedLine, Reply, Request, Rule, SHIPMENT_TO_ORDER,
+    Outs, PAYMENT_TO_ORDER, PayRule, PricedLine, Reply, Request, Role, Rule, SHIPMENT_TO_ORDER,
     STOCK_TO_ORDER, Tabled,
 };
 use order_service::Orders;
-use service_driving::step;
+use service_driving::{LANE, step};
 use std::alloc::Global;
 use std::process::Abort;
 use std::test::Fail;
@@ -41,11 +42,14 @@ const BOTH: RequestId = RequestId {
     number: 6,
 };
 
-const FROM_LANE: Link = Link::Asked(7, 3);
+// The links on which the lane asks orders, and is told.
+const FROM_LANE: Link = Link::Asked(LANE, Role::Order as u8);
+
+const TO_LANE: Link = Link::Told(Role::Order as u8, LANE);
 
 // The request of caller 7 with this number.
 fn asked(number: u32, ask: Ask) -> Body
-    ensures { result ≡ (request 3 number ask).1 }
+    ensures { result ≡ (request order_node number ask).1 }
 {
     let id = RequestId { caller: 7, number };
     Body::Asked(Request { id, ask })
@@ -190,7 +194,7 @@ fn assert_told(
 ) -> Result<(), Fail> {
     let id = RequestId { caller: 7, number };
     let told = Body::Told(id, Reply::OrderState(status, total));
-    assert_eq!(rt; only(outs)?, (Link::Told(3, 7), told));
+    assert_eq!(rt; only(outs)?, (TO_LANE, told));
     Ok(())
 }
 
@@ -232,7 +236,7 @@ fn a_checkout_that_was_not_confirmed_has_no_order(rt: HostRuntime) -> Result<(),
         number: 9,
     };
     let refused = Body::Told(id, Reply::Refused(Rule::NoOrder));
-    assert_eq!(rt; only(told)?, (Link::Told(3, 7), refused));
+    assert_eq!(rt; only(told)?, (TO_LANE, refused));
     Ok(())
 }
 

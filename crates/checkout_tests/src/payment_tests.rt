@@ -13,15 +13,18 @@ use market_amounts::{Cents, List, ProductKey, Quantity, RequestId};
 use market_events::{
     Ask, Body, Link, ORDER_TO_PAYMENT, Outs, PAYMENT_TO_CUSTOMER, PAYMENT_TO_ORDER,
     PAYMENT_TO_SELLER, PAYMENT_TO_SHIPMENT, PAYMENT_TO_STOCK, PayRule, PricedLine, Reply, Request,
-    Tabled,
+    Role, Tabled,
 };
 use payment_service::Payments;
-use service_driving::step;
+use service_driving::{LANE, step};
 use std::alloc::Global;
 use std::process::Abort;
 use std::test::Fail;
 
-const LANE: Link = Link::Asked(7, 4);
+// The links on which the lane asks payments, and is told.
+const FROM_LANE: Link = Link::Asked(LANE, Role::Payment as u8);
+
+const TO_LANE: Link = Link::Told(Role::Payment as u8, LANE);
 
 // Who is told of a payment, and of a failure.
 const WHEN_PAID: [Link; 5] = [
@@ -106,7 +109,7 @@ fn with_card(alloc: Global, limit: u64) -> Result<Payments, Fail>
 {
     let mut payments = Payments::new(alloc);
     let asked = card(3, limit);
-    step(&mut payments, alloc, LANE, &asked)?;
+    step(&mut payments, alloc, FROM_LANE, &asked)?;
     Ok(payments)
 }
 
@@ -126,7 +129,7 @@ fn assert_made(rt: &impl Abort, mut outs: Outs, links: &[Link], body: &Body) -> 
 fn assert_told(rt: &impl Abort, mut outs: Outs, number: u32, limit: u64) -> Result<(), Fail> {
     let id = RequestId { caller: 7, number };
     let (to, made, _copy) = outs.first().ok_or("nothing")?;
-    assert_eq!(rt; to, Link::Told(4, 7));
+    assert_eq!(rt; to, TO_LANE);
     assert_eq!(rt; made, Body::Told(id, Reply::Card(limit)));
     assert!(rt; outs.is_empty());
     Ok(())
@@ -186,7 +189,7 @@ fn a_limit_below_what_was_spent_pays_nothing(rt: HostRuntime) -> Result<(), Fail
     let bill = invoice(rt.alloc())?;
     step(&mut payments, rt.alloc(), ORDER_TO_PAYMENT, &bill)?;
     let lower = card(4, 1949);
-    let told = step(&mut payments, rt.alloc(), LANE, &lower)?;
+    let told = step(&mut payments, rt.alloc(), FROM_LANE, &lower)?;
     assert_told(&rt, told, 4, 1949)?;
     let free = free_invoice(rt.alloc())?;
     let outs = step(&mut payments, rt.alloc(), ORDER_TO_PAYMENT, &free)?;

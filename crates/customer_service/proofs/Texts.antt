@@ -1,13 +1,12 @@
 -- Customers have names of their own, and a table has an entry of each customer with a text.
-use Rattle.std.proofs.Common.{◌≡◌, ℕ, Bool, true, false, cond, ◌==◌, ◌||◌, List, [], ◌∷◌, Some, None, is_some, unwrap_or, refl, ap, sym, ◌∙◌, arith}
+use Rattle.std.proofs.Common.{◌≡◌, ℕ, Bool, true, false, cond, ◌==◌, List, [], ◌∷◌, Option, Some, None, is_some, unwrap_or, refl, ap, sym, ◌∙◌}
 use Rattle.std.specs.Fmt.{decimal}
 use Rattle.std.specs.Prelude.{codes}
 use Rattle.std.specs.List.{list_any}
-use Rattle.std.specs.BTreeMap.{is_at}
-use Rattle.std.specs.Map.{keys_of, lookup}
-use Rattle.std.specs.Ordering.{nat_cmp, is_eq}
-use Rattle.std.proofs.lemmas.Bool.Decides.{nat_tests}
+use Rattle.std.specs.Map.{keys_of}
+use Rattle.market_events.specs.Entries.{entry_at}
 use Rattle.market_events.specs.WellFormed.{IsId}
+use Rattle.market_events.proofs.Values.Entries.{entry-among}
 use Rattle.market_events.proofs.NamedCells.Keyed.{IsNaming, HasAll, IsFilled, joined_filled, number_naming}
 use Rattle.customer_service.specs.declared.tables.Tally.{Tally}
 use Rattle.customer_service.specs.Tables.{nothing}
@@ -38,13 +37,8 @@ text_filled t = by (is_nothing t)
 
 -- a table has an entry of each customer of whom it counts something
 pub keys_all : (table : List (ℕ × Tally)) → HasAll (λ a b. a == b) (texts_in table) (keys_of table)
-keys_all [] c some = some
-keys_all (e ∷ es) c some = by (keys_all es c) (c == e.0) refl
+keys_all table c some = by (entry_at table c) refl some
   where
-    alike_test : is_eq (nat_cmp c e.0) ≡ (c == e.0)
-    alike_test = grind (arith, nat_tests)
-
-    by : (is_some (texts_in es c) ≡ true → is_among (keys_of es) c ≡ true) → (b : Bool) → (c == e.0) ≡ b → ((c == e.0) || is_among (keys_of es) c) ≡ true
-    by rest true here = rw here refl
-    by rest false other =
-        rw other (rest (sym (ap (λ b. is_some (text_by (unwrap_or (cond b (Some e.1) (lookup (is_at (nat_cmp c)) es)) nothing))) (alike_test ∙ other)) ∙ some))
+    by : (o : Option Tally) → entry_at table c ≡ o → is_some (text_by (unwrap_or o nothing)) ≡ true → is_among (keys_of table) c ≡ true
+    by None found some = cc
+    by (Some t) found some = entry-among table c t found

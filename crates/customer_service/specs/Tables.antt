@@ -1,9 +1,7 @@
 -- The table of what is counted: what it has of a customer.
 use Rattle.std.specs.Prelude.{ℕ, List, Option, IsSome, unwrap_or}
-use Rattle.std.specs.Ordering.{nat_cmp}
-use Rattle.std.specs.BTreeMap.{is_at}
-use Rattle.std.specs.Map.{lookup}
 use Rattle.market_events.specs.Customers.{CustomerSums}
+use Rattle.market_events.specs.Entries.{entry_at}
 use Rattle.customer_service.specs.declared.tables.Tally.{Tally}
 
 abbrev pub nothing : Tally
@@ -11,7 +9,7 @@ nothing = record { confirmed = 0; failed = 0; delivered = 0 }
 
 -- the customer's entry, and what it counts, which without one is nothing
 abbrev pub tally_at_customer : List (ℕ × Tally) → ℕ → Option Tally
-tally_at_customer table customer = lookup (is_at (nat_cmp customer)) table
+tally_at_customer table customer = entry_at table customer
 
 abbrev pub HasTally : List (ℕ × Tally) → ℕ → Type 0
 HasTally table customer = IsSome (tally_at_customer table customer)

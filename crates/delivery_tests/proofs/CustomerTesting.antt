@@ -9,6 +9,7 @@ use Rattle.market_events.specs.declared.links.Link.TheVariants as link
 use Rattle.market_events.specs.declared.requests.Ask.TheVariants as ask
 use Rattle.market_events.specs.Examples.{an_id}
 use Rattle.market_events.specs.Links.{customer_node}
+use Rattle.market_events.specs.Requests.{lane_of}
 use Rattle.market_events.specs.Services.{fits}
 use Rattle.market_events.specs.Standing.{Stands, CanTake, with_step}
 use Rattle.market_events.specs.Steps.{Step}
@@ -17,7 +18,7 @@ use Rattle.delivery_tests.specs.CustomerExamples.{payments, deliveries, payment,
 use Rattle.customer_service.specs.Holds.{Holds}
 use Rattle.market_events.specs.declared.roles.Role.{Role}
 
--- the bodies that have an id of a request, and that lane 5 asks
+-- the bodies that have an id of a request, and the link on which the lane of caller 5 asks
 abbrev pub failed : RequestId → Body
 failed checkout = body.Failed checkout 7 pay.OverLimit
 
@@ -25,7 +26,7 @@ abbrev pub asked : RequestId → Body
 asked id = body.Asked (record { id = id; ask = ask.Customer 7 })
 
 abbrev pub lane : Link
-lane = link.Asked 5 customer_node
+lane = link.Asked (lane_of (an_id 5 4)) customer_node
 
 pub first_fits : fits Role.Customer [] payments (payment 1) ≡ true
 unfolding fits

@@ -16,19 +16,6 @@ use Rattle.delivery_tests.specs.SellerExamples.{shown, one_mug}
 use Rattle.seller_service.specs.Holds.{Holds}
 use Rattle.seller_service.specs.Tables.{SellerTables}
 
--- a step that follows can be taken
-pub can_take : (tables : SellerTables) (steps : List Step) (s : Step) (b : Body) → Stands Role.Seller Holds tables steps → Follows Role.Seller steps s → b ≡ s.body → CanTake Role.Seller Holds tables s.from b
-can_take tables steps s b stands follows is = ∣ (steps, stands, ap (fits Role.Seller steps s.from) is ∙ follows.fit) ∣₁
-
--- and was
-pub took : (tables now : SellerTables) (steps : List Step) (s : Step) (b : Body) → Stands Role.Seller Holds tables steps → Follows Role.Seller steps s → b ≡ s.body
-    → ((steps : List Step) → Stands Role.Seller Holds tables steps → fits Role.Seller steps s.from b ≡ true → Stands Role.Seller Holds now (with_step Role.Seller steps s.from b))
-    → Stands Role.Seller Holds now (steps ++ s ∷ [])
-took tables now steps s b stands follows is on =
-    let alike : (λ (b : Body). with_step Role.Seller steps s.from b) b ≡ steps ++ s ∷ [] =
-    λ i. steps ++ (let t : Step = record { from = s.from; body = is i; made = (ap (answers Role.Seller steps s.from) is ∙ sym follows.made) i } in t) ∷ [] in
-    subst (Stands Role.Seller Holds now) alike (on steps stands (ap (fits Role.Seller steps s.from) is ∙ follows.fit))
-
 -- the first checkout
 abbrev pub invoiced : Step
 invoiced = quiet (ORDER_TO_SELLER, mug_invoice)

@@ -11,23 +11,6 @@ use Rattle.market_events.specs.Steps.{Step}
 use Rattle.shipment_service.specs.declared.service.Shipments.{Shipments}
 use Rattle.shipment_service.specs.Holds.{Holds}
 
--- a step that follows can be taken
-pub can_take : (kept : Shipments) (steps : List Step) (s : Step) (b : Body) → Stands Role.Shipment Holds kept steps → Follows Role.Shipment steps s → b ≡ s.body → CanTake Role.Shipment Holds kept s.from b
-can_take kept steps s b stands follows is = ∣ (steps, stands, ap (fits Role.Shipment steps s.from) is ∙ follows.fit) ∣₁
-
--- and was
-pub took : (kept now : Shipments) (steps : List Step) (s : Step) (b : Body) → Stands Role.Shipment Holds kept steps → Follows Role.Shipment steps s → b ≡ s.body
-    → ((steps : List Step) → Stands Role.Shipment Holds kept steps → fits Role.Shipment steps s.from b ≡ true → Stands Role.Shipment Holds now (with_step Role.Shipment steps s.from b))
-    → Stands Role.Shipment Holds now (steps ++ s ∷ [])
-took kept now steps s b stands follows is on =
-    let alike : (λ (b : Body). with_step Role.Shipment steps s.from b) b ≡ steps ++ s ∷ [] =
-    λ i. steps ++ (let t : Step = record { from = s.from; body = is i; made = (ap (answers Role.Shipment steps s.from) is ∙ sym follows.made) i } in t) ∷ [] in
-    subst (Stands Role.Shipment Holds now) alike (on steps stands (ap (fits Role.Shipment steps s.from) is ∙ follows.fit))
-
--- the shipments are new
-pub at_first : (kept : Shipments) → Holds kept [] → Stands Role.Shipment Holds kept []
-at_first kept held = record { run = tt; held = held }
-
 -- a package of seller 30, and then one of each of the sellers 1 to 10
 abbrev pub thirtieth : Step
 thirtieth = ships 1 100 (of_seller 30 ∷ [])

@@ -10,8 +10,8 @@ ghost use Rattle.customer_service.specs.Holds.{Holds};
 use customer_service::Customers;
 use market_amounts::{Cents, List, ProductKey, Quantity, RequestId};
 use market_events::{
-    Ask, Body, Item, Link, Outs, PAYMENT_TO_CUSTOMER, PayRule, PricedLine, Reply, Request,
-    SHIPMENT_TO_CUSTOMER, Tabled,
+    Ask, Body, Item, LANES, Link, Outs, PAYMENT_TO_CUSTOMER, PayRule, PricedLine, Reply, Request,
+    Role, SHIPMENT_TO_CUSTOMER, Tabled,
 };
 use service_driving::{drive, step};
 use std::alloc::Global;
@@ -23,11 +23,23 @@ const MUG: ProductKey = ProductKey {
     product: 10,
 };
 
+// The caller of the requests, its lane, and the links on which that asks the customers and is told.
+const CALLER: u32 = 5;
+
+const LANE: u8 = (CALLER % LANES) as u8;
+
+const FROM_LANE: Link = Link::Asked(LANE, Role::Customer as u8);
+
+const TO_LANE: Link = Link::Told(Role::Customer as u8, LANE);
+
 // A request of caller 5.
 fn request(number: u32) -> RequestId
     ensures { result ≡ an_id 5 number }
 {
-    RequestId { caller: 5, number }
+    RequestId {
+        caller: CALLER,
+        number,
+    }
 }
 
 // Two mugs at 10.00 that customer 7 paid.
@@ -77,10 +89,10 @@ fn with_payments(alloc: Global) -> Result<Customers, Fail>
     Ok(customers)
 }
 
-// Lane 5 was told of two payments and a failure, and nothing else was made.
+// The lane was told of two payments and a failure, and nothing else was made.
 fn assert_told(rt: &impl Abort, mut outs: Outs) -> Result<(), Fail> {
     let (link, told, copy) = outs.first().ok_or("nothing")?;
-    assert_eq!(rt; link, Link::Told(6, 5));
+    assert_eq!(rt; link, TO_LANE);
     assert_eq!(rt; told, Body::Told(request(4), Reply::Customer(2, 1, 0)));
     assert_eq!(rt; copy, told);
     assert!(rt; outs.is_empty());
@@ -130,14 +142,14 @@ fn two_payments_and_a_failure(rt: HostRuntime) -> Result<(), Fail> {
         id: request(4),
         ask: Ask::Customer(7),
     });
-    let outs = step(&mut customers, rt.alloc(), Link::Asked(5, 6), &asked)?;
+    let outs = step(&mut customers, rt.alloc(), FROM_LANE, &asked)?;
     assert_told(&rt, outs)
 }
 
 #[test]
 fn a_failed_payment_is_counted(rt: HostRuntime) -> Result<(), Fail> {
     let id = RequestId {
-        caller: 5,
+        caller: CALLER,
         number: 9,
     };
     let mut customers = Customers::new(rt.alloc());
@@ -152,10 +164,10 @@ fn a_failed_payment_is_counted(rt: HostRuntime) -> Result<(), Fail> {
         id,
         ask: Ask::Customer(7),
     });
-    let (mut outs, cells) = drive(&mut customers, rt.alloc(), Link::Asked(5, 6), &asked)?;
+    let (mut outs, cells) = drive(&mut customers, rt.alloc(), FROM_LANE, &asked)?;
     assert!(rt; cells.is_empty());
     let (link, told, copy) = outs.first().ok_or("nothing")?;
-    assert_eq!(rt; link, Link::Told(6, 5));
+    assert_eq!(rt; link, TO_LANE);
     assert_eq!(rt; told, Body::Told(id, Reply::Customer(0, 1, 0)));
     assert_eq!(rt; copy, told);
     assert_eq!(rt; customers.cells()?.len(), 1);

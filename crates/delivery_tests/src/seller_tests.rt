@@ -4,16 +4,17 @@ ghost use Rattle.std.specs.Prelude.{◌≡◌, [], ◌∷◌, IfOk};
 ghost use Rattle.market_events.specs.Examples.{a_line, mug, request};
 ghost use Rattle.market_events.specs.ExamplesSeller.{base_invoiced, base_shipped, lines_of_8};
 ghost use Rattle.market_events.specs.declared.roles.Role.{Role};
+ghost use Rattle.market_events.specs.Links.{seller_node};
 ghost use Rattle.market_events.specs.Standing.{Stands};
 ghost use Rattle.seller_service.specs.Holds.{Holds};
 
 use market_amounts::{Cents, List, ProductKey, Quantity, RequestId};
 use market_events::{
     Ask, Body, Cell, CellName, EntryRow, Item, Link, ORDER_TO_SELLER, OrderStatus, Outs,
-    PAYMENT_TO_SELLER, PayRule, PricedLine, Reply, Request, SHIPMENT_TO_SELLER, Tabled,
+    PAYMENT_TO_SELLER, PayRule, PricedLine, Reply, Request, Role, SHIPMENT_TO_SELLER, Tabled,
 };
 use seller_service::Sellers;
-use service_driving::step;
+use service_driving::{LANE, step};
 use std::alloc::Global;
 use std::test::Fail;
 
@@ -32,9 +33,14 @@ const SECOND: RequestId = RequestId {
     number: 8,
 };
 
+// The links on which the lane asks the sellers, and is told.
+const FROM_LANE: Link = Link::Asked(LANE, Role::Seller as u8);
+
+const TO_LANE: Link = Link::Told(Role::Seller as u8, LANE);
+
 // A request for the dashboard of a seller.
 fn asked(number: u32, seller: u32) -> Body
-    ensures { result ≡ (request 7 number (Ask.Dashboard seller)).1 }
+    ensures { result ≡ (request seller_node number (Ask.Dashboard seller)).1 }
 {
     let id = RequestId { caller: 7, number };
     let ask = Ask::Dashboard(seller);
@@ -109,7 +115,7 @@ fn with_shipment(alloc: Global) -> Result<Sellers, Fail>
 fn shipped_entry(alloc: Global) -> Result<Outs, Fail> {
     let mut sellers = with_shipment(alloc)?;
     let asked = asked(6, 5);
-    let made = step(&mut sellers, alloc, Link::Asked(7, 7), &asked)?;
+    let made = step(&mut sellers, alloc, FROM_LANE, &asked)?;
     Ok(made)
 }
 
@@ -125,7 +131,7 @@ fn second_entry(alloc: Global) -> Result<Outs, Fail> {
     let shipped = Body::Shipped(SECOND);
     step(&mut sellers, alloc, SHIPMENT_TO_SELLER, &shipped)?;
     let asked = asked(11, 5);
-    let made = step(&mut sellers, alloc, Link::Asked(7, 7), &asked)?;
+    let made = step(&mut sellers, alloc, FROM_LANE, &asked)?;
     Ok(made)
 }
 
@@ -135,7 +141,7 @@ fn cancelled_entry(alloc: Global) -> Result<Outs, Fail> {
     let failed = Body::Failed(FIRST, 7, PayRule::NoCard);
     step(&mut sellers, alloc, PAYMENT_TO_SELLER, &failed)?;
     let asked = asked(6, 5);
-    let made = step(&mut sellers, alloc, Link::Asked(7, 7), &asked)?;
+    let made = step(&mut sellers, alloc, FROM_LANE, &asked)?;
     Ok(made)
 }
 
@@ -159,7 +165,7 @@ fn delivered_entry(alloc: Global) -> Result<Outs, Fail> {
     let delivered = delivery(alloc, 7)?;
     step(&mut sellers, alloc, SHIPMENT_TO_SELLER, &delivered)?;
     let asked = asked(6, 5);
-    let made = step(&mut sellers, alloc, Link::Asked(7, 7), &asked)?;
+    let made = step(&mut sellers, alloc, FROM_LANE, &asked)?;
     Ok(made)
 }
 
@@ -171,7 +177,7 @@ fn twice_delivered_entry(alloc: Global) -> Result<Outs, Fail> {
     let again = delivery(alloc, 8)?;
     step(&mut sellers, alloc, SHIPMENT_TO_SELLER, &again)?;
     let asked = asked(6, 5);
-    let made = step(&mut sellers, alloc, Link::Asked(7, 7), &asked)?;
+    let made = step(&mut sellers, alloc, FROM_LANE, &asked)?;
     Ok(made)
 }
 
@@ -185,7 +191,7 @@ fn sixty_entries(alloc: Global) -> Result<Outs, Fail> {
     let second = Body::Invoice(SECOND, 7, lines, 3000);
     step(&mut sellers, alloc, ORDER_TO_SELLER, &second)?;
     let asked = asked(9, 8);
-    let made = step(&mut sellers, alloc, Link::Asked(7, 7), &asked)?;
+    let made = step(&mut sellers, alloc, FROM_LANE, &asked)?;
     Ok(made)
 }
 
@@ -234,7 +240,7 @@ fn first(mut outs: Outs) -> Result<(Link, Body), Fail> {
 fn told(number: u32, point: u32, entries: u32, amount: u128, rows: List<EntryRow>) -> (Link, Body) {
     let id = RequestId { caller: 7, number };
     let reply = Reply::Dashboard(point, entries, amount, rows);
-    (Link::Told(7, 7), Body::Told(id, reply))
+    (TO_LANE, Body::Told(id, reply))
 }
 
 #[test]

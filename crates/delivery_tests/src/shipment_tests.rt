@@ -7,9 +7,9 @@ ghost use Rattle.market_events.specs.ExamplesShipment.{piece_of, deliver};
 use market_amounts::{Cents, List, ProductKey, Quantity, RequestId};
 use market_events::{
     Ask, Body, Cell, CellName, Item, Link, Outs, PAYMENT_TO_SHIPMENT, PricedLine, Reply, Request,
-    SHIPMENT_TO_CUSTOMER, SHIPMENT_TO_ORDER, SHIPMENT_TO_SELLER, Tabled,
+    Role, SHIPMENT_TO_CUSTOMER, SHIPMENT_TO_ORDER, SHIPMENT_TO_SELLER, Tabled,
 };
-use service_driving::step;
+use service_driving::{LANE, step};
 use shipment_service::Shipments;
 use std::alloc::{AllocError, Global};
 use std::process::Abort;
@@ -80,7 +80,10 @@ const MUGS: [ProductKey; 1] = [ProductKey {
     product: 10,
 }];
 
-const FROM_LANE: Link = Link::Asked(7, 5);
+// The links on which the lane asks shipments, and is told.
+const FROM_LANE: Link = Link::Asked(LANE, Role::Shipment as u8);
+
+const TO_LANE: Link = Link::Told(Role::Shipment as u8, LANE);
 
 // A checkout of caller 7.
 fn checkout(number: u32) -> RequestId
@@ -160,7 +163,7 @@ fn assert_told(
     packages: u32,
 ) -> Result<(), Fail> {
     let told = Body::Told(checkout(number), Reply::Delivered(sellers, packages));
-    assert_next(rt, &mut outs, Link::Told(5, 7), &told)?;
+    assert_next(rt, &mut outs, TO_LANE, &told)?;
     assert!(rt; outs.is_empty());
     Ok(())
 }

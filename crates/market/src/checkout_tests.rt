@@ -8,55 +8,75 @@ use std::test::Fail;
 // A whole checkout.
 const BASE: (&[u8], &[u8]) = (
     b"7,1,create,5,10,1000,50\n7,2,stock,5,10,3\n7,3,card,7,10000\n7,4,line,7,5,10,2,100\n7,5,checkout,7\n",
-    b"7.1 created 1\n7.2 stocked 3\n7.3 card 10000\n7.4 line 2\n7.5 whole 1950\nrequests 5\nwhole 1\nundone 0\noutstanding 0\n",
+    b"7.1 created 1\n7.2 stocked 3\n7.3 card 10000\n7.4 line 2\n7.5 whole 1950\nrequests 5\n\
+        whole 1\nundone 0\noutstanding 0\n",
 );
 
 // The total is the limit.
 const AT_LIMIT: (&[u8], &[u8]) = (
     b"7,1,create,5,10,1000,50\n7,2,stock,5,10,3\n7,3,card,7,1950\n7,4,line,7,5,10,2,100\n7,5,checkout,7\n",
-    b"7.1 created 1\n7.2 stocked 3\n7.3 card 1950\n7.4 line 2\n7.5 whole 1950\nrequests 5\nwhole 1\nundone 0\noutstanding 0\n",
+    b"7.1 created 1\n7.2 stocked 3\n7.3 card 1950\n7.4 line 2\n7.5 whole 1950\nrequests 5\n\
+        whole 1\nundone 0\noutstanding 0\n",
 );
 
 // The total is above the limit.
 const OVER_LIMIT: (&[u8], &[u8]) = (
-    b"7,1,create,5,10,1000,50\n7,2,stock,5,10,3\n7,3,card,7,1949\n7,4,line,7,5,10,2,100\n7,5,checkout,7\n7,6,level,5,10\n",
-    b"7.1 created 1\n7.2 stocked 3\n7.3 card 1949\n7.4 line 2\n7.5 undone over_limit\n7.6 level 3 0\nrequests 6\nwhole 0\nundone 1\noutstanding 0\n",
+    b"7,1,create,5,10,1000,50\n7,2,stock,5,10,3\n7,3,card,7,1949\n7,4,line,7,5,10,2,100\n\
+        7,5,checkout,7\n7,6,level,5,10\n",
+    b"7.1 created 1\n7.2 stocked 3\n7.3 card 1949\n7.4 line 2\n7.5 undone over_limit\n\
+        7.6 level 3 0\nrequests 6\nwhole 0\nundone 1\noutstanding 0\n",
 );
 
 // There is no card.
 const NO_CARD: (&[u8], &[u8]) = (
     b"7,1,create,5,10,1000,50\n7,2,stock,5,10,3\n7,4,line,7,5,10,2,100\n7,5,checkout,7\n7,6,level,5,10\n",
-    b"7.1 created 1\n7.2 stocked 3\n7.4 line 2\n7.5 undone no_card\n7.6 level 3 0\nrequests 5\nwhole 0\nundone 1\noutstanding 0\n",
+    b"7.1 created 1\n7.2 stocked 3\n7.4 line 2\n7.5 undone no_card\n7.6 level 3 0\nrequests 5\n\
+        whole 0\nundone 1\noutstanding 0\n",
 );
 
 // Too few pieces.
 const SHORT: (&[u8], &[u8]) = (
-    b"7,1,create,5,10,1000,50\n7,2,stock,5,10,1\n7,3,card,7,10000\n7,4,line,7,5,10,2,100\n7,5,checkout,7\n7,6,order,7,5\n",
-    b"7.1 created 1\n7.2 stocked 1\n7.3 card 10000\n7.4 line 2\n7.5 undone short 5 10\n7.6 refused no_order\nrequests 6\nwhole 0\nundone 1\noutstanding 0\n",
+    b"7,1,create,5,10,1000,50\n7,2,stock,5,10,1\n7,3,card,7,10000\n7,4,line,7,5,10,2,100\n\
+        7,5,checkout,7\n7,6,order,7,5\n",
+    b"7.1 created 1\n7.2 stocked 1\n7.3 card 10000\n7.4 line 2\n7.5 undone short 5 10\n\
+        7.6 refused no_order\nrequests 6\nwhole 0\nundone 1\noutstanding 0\n",
 );
 
 // All lines or none.
 const SECOND_SHORT: (&[u8], &[u8]) = (
-    b"7,1,create,5,10,1000,50\n7,2,create,5,11,500,0\n7,3,stock,5,10,3\n7,4,stock,5,11,1\n7,5,card,7,100000\n7,6,line,7,5,10,2,0\n7,7,line,7,5,11,2,0\n7,8,checkout,7\n7,9,level,5,10\n",
-    b"7.1 created 1\n7.2 created 1\n7.3 stocked 3\n7.4 stocked 1\n7.5 card 100000\n7.6 line 2\n7.7 line 2\n7.8 undone short 5 11\n7.9 level 3 0\nrequests 9\nwhole 0\nundone 1\noutstanding 0\n",
+    b"7,1,create,5,10,1000,50\n7,2,create,5,11,500,0\n7,3,stock,5,10,3\n7,4,stock,5,11,1\n\
+        7,5,card,7,100000\n7,6,line,7,5,10,2,0\n7,7,line,7,5,11,2,0\n7,8,checkout,7\n\
+        7,9,level,5,10\n",
+    b"7.1 created 1\n7.2 created 1\n7.3 stocked 3\n7.4 stocked 1\n7.5 card 100000\n7.6 line 2\n\
+        7.7 line 2\n7.8 undone short 5 11\n7.9 level 3 0\nrequests 9\nwhole 0\nundone 1\n\
+        outstanding 0\n",
 );
 
 // The checkout comes again.
 const TWICE: (&[u8], &[u8]) = (
-    b"7,1,create,5,10,1000,50\n7,2,stock,5,10,3\n7,3,card,7,10000\n7,4,line,7,5,10,2,100\n7,5,checkout,7\n7,5,checkout,7\n",
-    b"7.1 created 1\n7.2 stocked 3\n7.3 card 10000\n7.4 line 2\n7.5 whole 1950\n7.5 whole 1950\nrequests 5\nwhole 1\nundone 0\noutstanding 0\n",
+    b"7,1,create,5,10,1000,50\n7,2,stock,5,10,3\n7,3,card,7,10000\n7,4,line,7,5,10,2,100\n\
+        7,5,checkout,7\n7,5,checkout,7\n",
+    b"7.1 created 1\n7.2 stocked 3\n7.3 card 10000\n7.4 line 2\n7.5 whole 1950\n7.5 whole 1950\n\
+        requests 5\nwhole 1\nundone 0\noutstanding 0\n",
 );
 
 // A product is deleted before the checkout.
 const DELETED: (&[u8], &[u8]) = (
-    b"7,1,create,5,10,1000,50\n7,2,stock,5,10,3\n7,3,card,7,10000\n7,4,line,7,5,10,2,100\n7,5,delete,5,10\n7,6,checkout,7\n7,7,remove,7,5,10\n7,8,remove,7,5,10\n",
-    b"7.1 created 1\n7.2 stocked 3\n7.3 card 10000\n7.4 line 2\n7.5 deleted 2\n7.6 undone gone 5 10\n7.7 removed\n7.8 refused no_line\nrequests 8\nwhole 0\nundone 1\noutstanding 0\n",
+    b"7,1,create,5,10,1000,50\n7,2,stock,5,10,3\n7,3,card,7,10000\n7,4,line,7,5,10,2,100\n\
+        7,5,delete,5,10\n7,6,checkout,7\n7,7,remove,7,5,10\n7,8,remove,7,5,10\n",
+    b"7.1 created 1\n7.2 stocked 3\n7.3 card 10000\n7.4 line 2\n7.5 deleted 2\n\
+        7.6 undone gone 5 10\n7.7 removed\n7.8 refused no_line\nrequests 8\nwhole 0\nundone 1\n\
+        outstanding 0\n",
 );
 
 // Entries in progress.
 const DASHBOARD: (&[u8], &[u8]) = (
-    b"7,1,create,5,10,1000,50\n7,2,stock,5,10,3\n7,3,card,7,10000\n7,4,line,7,5,10,2,100\n7,5,checkout,7\n7,6,dashboard,5\n7,7,line,7,5,10,1,0\n7,8,checkout,7\n7,9,dashboard,5\n",
-    b"7.1 created 1\n7.2 stocked 3\n7.3 card 10000\n7.4 line 2\n7.5 whole 1950\n7.6 dashboard 3 1 1950 7.5:10:2:1950:shipped\n7.7 line 1\n7.8 whole 1050\n7.9 dashboard 6 2 3000 7.5:10:2:1950:shipped 7.8:10:1:1050:shipped\nrequests 9\nwhole 2\nundone 0\noutstanding 0\n",
+    b"7,1,create,5,10,1000,50\n7,2,stock,5,10,3\n7,3,card,7,10000\n7,4,line,7,5,10,2,100\n\
+        7,5,checkout,7\n7,6,dashboard,5\n7,7,line,7,5,10,1,0\n7,8,checkout,7\n7,9,dashboard,5\n",
+    b"7.1 created 1\n7.2 stocked 3\n7.3 card 10000\n7.4 line 2\n7.5 whole 1950\n\
+        7.6 dashboard 3 1 1950 7.5:10:2:1950:shipped\n7.7 line 1\n7.8 whole 1050\n\
+        7.9 dashboard 6 2 3000 7.5:10:2:1950:shipped 7.8:10:1:1050:shipped\nrequests 9\nwhole 2\n\
+        undone 0\noutstanding 0\n",
 );
 
 #[test]
@@ -107,8 +127,9 @@ fn eleven_sellers(alloc: Global) -> Result<Vec<u8>, AllocError> {
 fn ten_oldest_sellers(rt: HostRuntime) -> Result<(), Fail> {
     let ran = run(&rt, &eleven_sellers(rt.alloc())?)?;
     assert_eq!(rt; ran.status, Status::Done);
-    let tail =
-        b"7.35 whole 1100\n7.36 delivered 10 10\n7.37 delivered 1 1\n7.38 delivered 0 0\n7.39 order delivered 1100\n7.40 customer 1 0 11\nrequests 40\nwhole 1\nundone 0\noutstanding 0\n";
+    let tail = b"7.35 whole 1100\n7.36 delivered 10 10\n7.37 delivered 1 1\n7.38 delivered 0 0\n\
+            7.39 order delivered 1100\n7.40 customer 1 0 11\nrequests 40\nwhole 1\nundone 0\n\
+            outstanding 0\n";
     assert!(rt; ran.written.as_slice().ends_with(tail));
     Ok(())
 }

@@ -7,7 +7,7 @@ ghost use Rattle.market.specs.Lanes.{kept_at, count_in_lane, IsFormed};
 ghost use Rattle.market.specs.Output.{undone_kept, whole_kept};
 
 use market_amounts::RequestId;
-use market_events::{Reply, Request};
+use market_events::{LANES, Reply, Request};
 use std::alloc::{AllocError, Global};
 use std::collections::BTreeMap;
 use std::marker::Model;
@@ -16,7 +16,7 @@ use std::marker::Model;
 pub const MOST_KEPT: u32 = 16_384;
 
 // How many lanes there are.
-const LANE_COUNT: usize = 16;
+const LANE_COUNT: usize = LANES as usize;
 
 /// A kept request with its reply.
 #[derive(Debug, Drop)]

@@ -192,16 +192,19 @@ fn repeats(rt: HostRuntime) -> Result<(), Fail> {
     )?;
     assert_eq!(rt; ran.status, Status::Done);
     let expected =
-        b"7.1 created 1\n7.1 created 1\n7.1 refused request_differs\n7.2 view 1 1000 50\nrequests 2\nwhole 0\nundone 0\noutstanding 0\n";
+        b"7.1 created 1\n7.1 created 1\n7.1 refused request_differs\n7.2 view 1 1000 50\n\
+            requests 2\nwhole 0\nundone 0\noutstanding 0\n";
     assert_eq!(rt; ran.written.as_slice(), expected.as_slice());
     Ok(())
 }
 
 const LIMITS: &[u8] =
-    b"7,1,create,5,10,1,0\n7,2,stock,5,10,1000000000\n7,3,stock,5,10,1\n7,4,create,5,10,1,0\n7,5,price,5,11,1\n";
+    b"7,1,create,5,10,1,0\n7,2,stock,5,10,1000000000\n7,3,stock,5,10,1\n7,4,create,5,10,1,0\n\
+        7,5,price,5,11,1\n";
 
 const LIMITS_OUTPUT: &[u8] =
-    b"7.1 created 1\n7.2 stocked 1000000000\n7.3 refused stock_over\n7.4 refused exists\n7.5 refused unknown\nrequests 5\nwhole 0\nundone 0\noutstanding 0\n";
+    b"7.1 created 1\n7.2 stocked 1000000000\n7.3 refused stock_over\n7.4 refused exists\n\
+        7.5 refused unknown\nrequests 5\nwhole 0\nundone 0\noutstanding 0\n";
 
 #[test]
 fn limits_of_stock(rt: HostRuntime) -> Result<(), Fail> {
@@ -231,17 +234,21 @@ fn full_cart(rt: HostRuntime) -> Result<(), Fail> {
     let ran = run(&rt, &loaded_cart(rt.alloc())?)?;
     assert_eq!(rt; ran.status, Status::Done);
     let tail =
-        b"8.31 line 1\n8.32 refused cart_full\n8.33 line 9\n8.34 refused no_line\n8.35 removed\nrequests 69\nwhole 0\nundone 0\noutstanding 0\n";
+        b"8.31 line 1\n8.32 refused cart_full\n8.33 line 9\n8.34 refused no_line\n8.35 removed\n\
+            requests 69\nwhole 0\nundone 0\noutstanding 0\n";
     assert!(rt; ran.written.as_slice().ends_with(tail));
     Ok(())
 }
 
 // A product that is deleted and created again, seen in the cart and in stock.
 const AGAIN: &[u8] =
-    b"7,1,create,5,10,1000,50\n7,2,delete,5,10\n7,3,view,5,10\n7,4,stock,5,10,2\n7,5,level,5,10\n7,6,create,5,10,1200,0\n7,7,view,5,10\n7,8,stock,5,10,2\n7,9,level,5,10\n7,10,level,5,11\n";
+    b"7,1,create,5,10,1000,50\n7,2,delete,5,10\n7,3,view,5,10\n7,4,stock,5,10,2\n7,5,level,5,10\n\
+        7,6,create,5,10,1200,0\n7,7,view,5,10\n7,8,stock,5,10,2\n7,9,level,5,10\n7,10,level,5,11\n";
 
 const AGAIN_OUTPUT: &[u8] =
-    b"7.1 created 1\n7.2 deleted 2\n7.3 refused gone\n7.4 refused gone\n7.5 level 0 0\n7.6 created 3\n7.7 view 3 1200 0\n7.8 stocked 2\n7.9 level 2 0\n7.10 refused unknown\nrequests 10\nwhole 0\nundone 0\noutstanding 0\n";
+    b"7.1 created 1\n7.2 deleted 2\n7.3 refused gone\n7.4 refused gone\n7.5 level 0 0\n\
+        7.6 created 3\n7.7 view 3 1200 0\n7.8 stocked 2\n7.9 level 2 0\n7.10 refused unknown\n\
+        requests 10\nwhole 0\nundone 0\noutstanding 0\n";
 
 #[test]
 fn created_again(rt: HostRuntime) -> Result<(), Fail> {
@@ -267,7 +274,8 @@ fn full_lane(rt: HostRuntime) -> Result<(), Fail> {
     let ran = run(&rt, &crowd(rt.alloc())?)?;
     assert_eq!(rt; ran.status, Status::Done);
     let tail =
-        b"7.16383 refused unknown\n7.16384 refused lane_full\n8.0 refused unknown\nrequests 16385\nwhole 0\nundone 0\noutstanding 0\n";
+        b"7.16383 refused unknown\n7.16384 refused lane_full\n8.0 refused unknown\nrequests 16385\n\
+            whole 0\nundone 0\noutstanding 0\n";
     assert!(rt; ran.written.as_slice().ends_with(tail));
     Ok(())
 }

@@ -16,7 +16,8 @@ use std::error::Error;
 use std::fmt;
 use std::marker::Model;
 
-const NODES: usize = 24;
+// How many nodes there are, as a length.
+const NODES: usize = market_events::NODES as usize;
 
 /// A row of a node: its place, from 0, and its text.
 #[derive(Debug, Drop, PartialEq)]

@@ -7,7 +7,7 @@ use crate::{
     StdSource,
 };
 use market_amounts::List;
-use market_events::Node;
+use market_events::Role;
 use std::alloc::{AllocError, Global};
 use std::test::Fail;
 
@@ -39,8 +39,8 @@ fn sink_with_a_failing_call(rt: HostRuntime) -> Result<(), Fail> {
 
 #[test]
 fn shelf_with_a_failing_commit(rt: HostRuntime) -> Result<(), Fail> {
-    let node = Node::try_new(5).ok_or("node")?;
-    let other = Node::try_new(6).ok_or("node")?;
+    let node = Role::Shipment.node();
+    let other = Role::Customer.node();
     let mut shelf = MemoryShelf::new(rt.alloc(), vec![in rt.alloc(); 2u32]?);
     let first = [row(rt.alloc(), 0, b"a")?, row(rt.alloc(), 1, b"bc")?];
     let second = [row(rt.alloc(), 2, b"d")?];

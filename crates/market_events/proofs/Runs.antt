@@ -13,5 +13,4 @@ pub mod Looks
 pub mod CheckoutLines
 pub mod Packages
 pub mod Dashboards
-pub mod Invoices
 pub mod Standing

@@ -1,7 +1,6 @@
 -- What services make: few bodies, well formed, on links of their own that can carry them. From Runs; one
 -- file for each service.
 pub mod WellFormed
-pub mod Carried
 pub mod CartRuns
 pub mod Cart
 pub mod Customers

@@ -3,6 +3,7 @@
 pub mod Offers
 pub mod Totals
 pub mod Lists
+pub mod Entries
 pub mod Same
 pub mod Keys
 pub mod Formed

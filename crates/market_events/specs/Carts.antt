@@ -33,7 +33,7 @@ use Rattle.market_events.specs.Requests.{same_key}
 use Rattle.market_events.specs.Steps.{Step, Sending, taken_bodies, told, refused, listed}
 use Rattle.market_events.specs.WellFormed.{most_lines}
 
--- the changes that were taken; they come on link 0 alone
+-- the changes that were taken; they come on PRODUCT_TO_CART alone
 abbrev pub changes_taken : List Step → List ProductChange
 changes_taken steps = filter_map change_in (taken_bodies steps)
 

@@ -10,11 +10,13 @@ use Rattle.market_events.specs.declared.bodies.Ending.TheVariants as ending
 use Rattle.market_events.specs.declared.bodies.Item.{Item}
 use Rattle.market_events.specs.declared.bodies.PricedLine.{PricedLine}
 use Rattle.market_events.specs.declared.changes.Change.TheVariants as change
+use Rattle.market_events.specs.declared.links.Link.{Link}
 use Rattle.market_events.specs.declared.links.Link.TheVariants.{Asked, Told}
 use Rattle.market_events.specs.declared.replies.Reply.{Reply}
 use Rattle.market_events.specs.declared.replies.Reply.TheVariants as reply
 use Rattle.market_events.specs.declared.replies.Rule.{Rule}
 use Rattle.market_events.specs.declared.requests.Ask.{Ask}
+use Rattle.market_events.specs.Requests.{lane_of}
 use Rattle.market_events.specs.Steps.{Step, Sending}
 
 abbrev pub a_key : ℕ → ℕ → ProductKey
@@ -36,13 +38,33 @@ an_item checkout key = record { checkout = checkout; customer = 7; key = key }
 abbrev pub strange_item : RequestId → ProductKey → Item
 strange_item checkout key = record { checkout = checkout; customer = 8; key = key }
 
--- the request of caller 7 with this number, on the link from lane 7 to this service
-abbrev pub request : ℕ → ℕ → Ask → Sending
-request service number ask = (Asked 7 service, body.Asked (record { id = an_id 7 number; ask = ask }))
+-- the lanes of callers 7 and 20
+abbrev pub lane_of_7 : ℕ
+lane_of_7 = lane_of (an_id 7 1)
 
--- what this service tells lane 7 of the request with this number
+abbrev pub lane_of_20 : ℕ
+lane_of_20 = lane_of (an_id 20 1)
+
+-- the links on which these lanes ask a service, and those on which they are told
+abbrev pub asked_by_7 : ℕ → Link
+asked_by_7 service = Asked lane_of_7 service
+
+abbrev pub told_to_7 : ℕ → Link
+told_to_7 service = Told service lane_of_7
+
+abbrev pub asked_by_20 : ℕ → Link
+asked_by_20 service = Asked lane_of_20 service
+
+abbrev pub told_to_20 : ℕ → Link
+told_to_20 service = Told service lane_of_20
+
+-- the request of caller 7 with this number, on the link to the service with this node
+abbrev pub request : ℕ → ℕ → Ask → Sending
+request service number ask = (asked_by_7 service, body.Asked (record { id = an_id 7 number; ask = ask }))
+
+-- what this service tells the lane of the request of caller 7 with this number
 abbrev pub answer : ℕ → ℕ → Reply → Sending
-answer service number reply = (Told service 7, body.Told (an_id 7 number) reply)
+answer service number reply = (told_to_7 service, body.Told (an_id 7 number) reply)
 
 abbrev pub refusal : ℕ → ℕ → Rule → Sending
 refusal service number rule = answer service number (reply.Refused rule)

@@ -9,7 +9,7 @@ use Rattle.market_events.specs.declared.links.TheConstants.{PRODUCT_TO_CART, PRO
 use Rattle.market_events.specs.declared.requests.Ask.TheVariants as ask
 use Rattle.market_events.specs.declared.replies.Reply.TheVariants as reply
 use Rattle.market_events.specs.Cells.{cell, cells_of}
-use Rattle.market_events.specs.Examples.{a_key, mug, cup, request, answer, makes}
+use Rattle.market_events.specs.Examples.{a_key, mug, cup, makes}
 use Rattle.market_events.specs.ExamplesBase.{cart_of_base, product_of_base, stock_of_base, order_of_base}
 use Rattle.market_events.specs.ExamplesBase.{payment_of_base, shipment_of_base, customer_of_base}
 use Rattle.market_events.specs.ExamplesBase.{seller_of_base}
@@ -18,7 +18,7 @@ use Rattle.market_events.specs.ExamplesCart.{mug_is_out}
 use Rattle.market_events.specs.ExamplesCustomer.{two_arrived}
 use Rattle.market_events.specs.ExamplesOrder.{half_delivered, mug_is_cancelled}
 use Rattle.market_events.specs.ExamplesPayment.{sets_card, mug_bill, fails_by}
-use Rattle.market_events.specs.ExamplesProduct.{mug_created, mug_deleted}
+use Rattle.market_events.specs.ExamplesProduct.{mug_created, mug_deleted, asks_product, product_tells}
 use Rattle.market_events.specs.ExamplesSeller.{one_delivered}
 use Rattle.market_events.specs.ExamplesShipment.{ten_delivered}
 use Rattle.market_events.specs.ExamplesStock.{three_products, two_reserved, reserve, reserved, mugs, cups}
@@ -47,10 +47,10 @@ pub record BaseCells : Type 0 where
 -- product 9 of seller 5 is created beside the mug
 abbrev pub nine_created : Step
 nine_created =
-    makes (request 1 8 (ask.Create (a_key 5 9) 30 60))
+    makes (asks_product 8 (ask.Create (a_key 5 9) 30 60))
     ((PRODUCT_TO_STOCK, body.Changed (a_key 5 9) 1 (change.Created 30 60))
     ∷ (PRODUCT_TO_CART, body.Changed (a_key 5 9) 1 (change.Created 30 60))
-    ∷ answer 1 8 (reply.Created 1) ∷ [])
+    ∷ product_tells 8 (reply.Created 1) ∷ [])
 
 -- checkout 9 reserves a mug and a cup
 abbrev pub mug_and_cup_reserved : List Step

@@ -7,6 +7,7 @@ use Rattle.market_events.specs.declared.replies.Reply.TheVariants as reply
 use Rattle.market_events.specs.declared.requests.Ask.TheVariants as ask
 use Rattle.market_events.specs.Examples.{an_id, an_item, strange_item, request, answer, quiet, mug, cup}
 use Rattle.market_events.specs.Examples.{basket, mug_lines, mug_paid}
+use Rattle.market_events.specs.Links.{customer_node}
 use Rattle.market_events.specs.Services.{Role, answers}
 use Rattle.market_events.specs.Steps.{Step, Sending}
 
@@ -15,10 +16,10 @@ customer_makes steps taken = answers Role.Customer steps taken.0 taken.1
 
 -- request 9 asks for the counts of a customer
 abbrev pub ask_of : ℕ → Sending
-ask_of customer = request 6 9 (ask.Customer customer)
+ask_of customer = request customer_node 9 (ask.Customer customer)
 
 abbrev pub counts : ℕ → ℕ → ℕ → List Sending
-counts confirmed failed delivered = answer 6 9 (reply.Customer confirmed failed delivered) ∷ []
+counts confirmed failed delivered = answer customer_node 9 (reply.Customer confirmed failed delivered) ∷ []
 
 -- the base workload is paid, and its mug arrives
 abbrev pub base_paid : List Step

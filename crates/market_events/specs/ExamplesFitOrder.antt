@@ -15,6 +15,7 @@ use Rattle.market_events.specs.Examples.{mug_shipped}
 use Rattle.market_events.specs.ExamplesOrder.{mug_invoiced, mug_is_paid, mug_is_shipped, mug_is_delivered}
 use Rattle.market_events.specs.ExamplesOrder.{mug_to_8, mug_is_cancelled, no_payment, two_lines}
 use Rattle.market_events.specs.ExamplesOrder.{half_delivered}
+use Rattle.market_events.specs.Links.{order_node}
 use Rattle.market_events.specs.Services.{Role, fits, reactions}
 use Rattle.market_events.specs.Steps.{Step, Sending}
 
@@ -41,12 +42,12 @@ mug_item = an_item basket mug
 
 -- request 9 asked for the order before there was one
 abbrev pub asked_9 : List Step
-asked_9 = makes (request 3 9 (ask.Order basket)) (refusal 3 9 rule.NoOrder ∷ []) ∷ []
+asked_9 = makes (request order_node 9 (ask.Order basket)) (refusal order_node 9 rule.NoOrder ∷ []) ∷ []
 
 pub record OrderPaymentFits : Type 0 where
-  pub new_request : order_takes [] (request 3 9 (ask.Order basket)) ≡ true
-  pub request_again : order_takes (asked_9 ++ mug_invoiced) (request 3 9 (ask.Order basket)) ≡ false
-  pub card_is_for_payments : order_takes [] (request 3 9 (ask.Card 7 10000)) ≡ false
+  pub new_request : order_takes [] (request order_node 9 (ask.Order basket)) ≡ true
+  pub request_again : order_takes (asked_9 ++ mug_invoiced) (request order_node 9 (ask.Order basket)) ≡ false
+  pub card_is_for_payments : order_takes [] (request order_node 9 (ask.Card 7 10000)) ≡ false
   pub checkout_once : order_takes [] confirmed ≡ true
   pub checkout_again : order_takes mug_invoiced confirmed ≡ false
   pub checkout_again_after_the_end : order_takes mug_is_cancelled confirmed ≡ false

@@ -15,6 +15,7 @@ use Rattle.market_events.specs.Examples.{cup, basket, mug_lines, mug_invoice, mu
 use Rattle.market_events.specs.ExamplesCustomer.{base_paid, base_delivered, two_delivered}
 use Rattle.market_events.specs.ExamplesPayment.{mug_bill, was_paid, other_bill, fails_by}
 use Rattle.market_events.specs.ExamplesShipment.{deliver, nothing_arrives, base_shipped}
+use Rattle.market_events.specs.Links.{payment_node, shipment_node, customer_node}
 use Rattle.market_events.specs.Services.{Role, fits, reactions}
 use Rattle.market_events.specs.Steps.{Step, Sending}
 
@@ -26,11 +27,12 @@ abbrev pub was_not_paid : List Step
 was_not_paid = makes mug_bill (fails_by pay.NoCard) ∷ []
 
 pub record PaymentFits : Type 0 where
-  pub new_request : payment_takes was_paid (request 4 9 (ask.Card 7 10000)) ≡ true
-  pub request_again : payment_takes was_paid (request 4 3 (ask.Card 7 10000)) ≡ false
-  pub order_is_for_orders : payment_takes was_paid (request 4 9 (ask.Order basket)) ≡ false
-  pub card_of_the_greatest_limit : payment_takes [] (request 4 9 (ask.Card 7 1000000000000000)) ≡ true
-  pub card_above_it : payment_takes [] (request 4 9 (ask.Card 7 1000000000000001)) ≡ false
+  pub new_request : payment_takes was_paid (request payment_node 9 (ask.Card 7 10000)) ≡ true
+  pub request_again : payment_takes was_paid (request payment_node 3 (ask.Card 7 10000)) ≡ false
+  pub order_is_for_orders : payment_takes was_paid (request payment_node 9 (ask.Order basket)) ≡ false
+  pub card_of_the_greatest_limit : payment_takes [] (request payment_node 9 (ask.Card 7 1000000000000000))
+      ≡ true
+  pub card_above_it : payment_takes [] (request payment_node 9 (ask.Card 7 1000000000000001)) ≡ false
   pub invoice_once : payment_takes [] mug_bill ≡ true
   pub invoice_again : payment_takes was_paid mug_bill ≡ false
   pub invoice_again_after_failure : payment_takes was_not_paid mug_bill ≡ false
@@ -49,7 +51,7 @@ pub record ShipmentFits : Type 0 where
   pub new_request : shipment_takes base_shipped (deliver 9) ≡ true
   pub request_again : shipment_takes (makes (deliver 9) (nothing_arrives 9) ∷ base_shipped) (deliver 9)
       ≡ false
-  pub card_is_for_payments : shipment_takes base_shipped (request 5 9 (ask.Card 7 10000)) ≡ false
+  pub card_is_for_payments : shipment_takes base_shipped (request shipment_node 9 (ask.Card 7 10000)) ≡ false
   pub payment_once : shipment_takes [] (PAYMENT_TO_SHIPMENT, mug_paid) ≡ true
   pub payment_twice : shipment_takes base_shipped (PAYMENT_TO_SHIPMENT, mug_paid) ≡ false
   pub second_payment : shipment_takes base_shipped
@@ -87,13 +89,14 @@ base_failed = quiet not_paid ∷ []
 
 -- request 9 asked for the counts of customer 8
 abbrev pub asked_9 : List Step
-asked_9 = makes (request 6 9 (ask.Customer 8)) (answer 6 9 (reply.Customer 0 0 0) ∷ []) ∷ []
+asked_9 =
+    makes (request customer_node 9 (ask.Customer 8)) (answer customer_node 9 (reply.Customer 0 0 0) ∷ []) ∷ []
 
 pub record CustomerFits : Type 0 where
-  pub new_request : customer_takes base_paid (request 6 9 (ask.Customer 7)) ≡ true
-  pub request_again : customer_takes asked_9 (request 6 9 (ask.Customer 8)) ≡ false
-  pub id_again_with_other_request : customer_takes asked_9 (request 6 9 (ask.Customer 7)) ≡ false
-  pub dashboard_is_for_sellers : customer_takes base_paid (request 6 9 (ask.Dashboard 5)) ≡ false
+  pub new_request : customer_takes base_paid (request customer_node 9 (ask.Customer 7)) ≡ true
+  pub request_again : customer_takes asked_9 (request customer_node 9 (ask.Customer 8)) ≡ false
+  pub id_again_with_other_request : customer_takes asked_9 (request customer_node 9 (ask.Customer 7)) ≡ false
+  pub dashboard_is_for_sellers : customer_takes base_paid (request customer_node 9 (ask.Dashboard 5)) ≡ false
   pub payment_once : customer_takes [] paid ≡ true
   pub payment_twice : customer_takes base_paid paid ≡ false
   pub payment_after_failure : customer_takes base_failed paid ≡ false

@@ -3,16 +3,16 @@ use Rattle.std.specs.Prelude.{◌≡◌, Bool, true, false, List, [], ◌∷◌}
 use Rattle.market_events.specs.declared.bodies.Body.TheVariants as body
 use Rattle.market_events.specs.declared.bodies.Item.{Item}
 use Rattle.market_events.specs.declared.bodies.PayRule.TheVariants as pay
-use Rattle.market_events.specs.declared.links.Link.TheVariants.{Asked}
 use Rattle.market_events.specs.declared.links.TheConstants.{ORDER_TO_PAYMENT, ORDER_TO_SELLER}
 use Rattle.market_events.specs.declared.links.TheConstants.{PAYMENT_TO_CUSTOMER, PAYMENT_TO_SELLER}
 use Rattle.market_events.specs.declared.links.TheConstants.{SHIPMENT_TO_ORDER, SHIPMENT_TO_SELLER}
 use Rattle.market_events.specs.declared.requests.Ask.TheVariants as ask
 use Rattle.market_events.specs.Examples.{an_id, an_item, strange_item, request, makes, mug, cup, pot, basket}
-use Rattle.market_events.specs.Examples.{mug_lines, mug_invoice, mug_paid, mug_shipped}
+use Rattle.market_events.specs.Examples.{mug_lines, mug_invoice, mug_paid, mug_shipped, asked_by_7}
 use Rattle.market_events.specs.ExamplesSeller.{base_invoiced, base_paid, base_shipped, base_delivered}
 use Rattle.market_events.specs.ExamplesSeller.{two_delivered, base_cancelled, three_lines, three_shipped}
 use Rattle.market_events.specs.ExamplesSeller.{one_delivered, ask_of, shows}
+use Rattle.market_events.specs.Links.{seller_node}
 use Rattle.market_events.specs.Services.{Role, fits, reactions}
 use Rattle.market_events.specs.Steps.{Step, Sending}
 
@@ -45,7 +45,7 @@ pub record SellerFits : Type 0 where
   pub new_request : seller_takes base_shipped (ask_of 5) ≡ true
   pub request_again : seller_takes asked_9 (ask_of 5) ≡ false
   pub id_again_with_other_request : seller_takes asked_9 (ask_of 6) ≡ false
-  pub customer_is_for_customers : seller_takes base_shipped (request 7 9 (ask.Customer 7)) ≡ false
+  pub customer_is_for_customers : seller_takes base_shipped (request seller_node 9 (ask.Customer 7)) ≡ false
   pub invoice_once : seller_takes [] invoiced ≡ true
   pub invoice_again : seller_takes base_invoiced invoiced ≡ false
   pub invoice_with_other_total : seller_takes [] (ORDER_TO_SELLER, body.Invoice basket 7 mug_lines 1949)
@@ -92,8 +92,9 @@ pub record SellerFits : Type 0 where
   pub item_of_other_customer_of_no_line : seller_takes base_shipped (delivered (strange_item basket cup ∷ []))
       ≡ false
   pub new_request_is_answered :
-      reactions Role.Seller [] (Asked 7 7) (body.Asked (record { id = an_id 7 9; ask = ask.Dashboard 5 }))
+      reactions Role.Seller [] (asked_by_7 seller_node)
+      (body.Asked (record { id = an_id 7 9; ask = ask.Dashboard 5 }))
       ≡ shows 0 0 0 []
   pub request_again_is_not :
-      reactions Role.Seller asked_9 (Asked 7 7)
+      reactions Role.Seller asked_9 (asked_by_7 seller_node)
       (body.Asked (record { id = an_id 7 9; ask = ask.Dashboard 6 })) ≡ []

@@ -11,17 +11,18 @@ use Rattle.market_events.specs.declared.links.TheConstants.{PRODUCT_TO_CART, PRO
 use Rattle.market_events.specs.declared.links.TheConstants.{STOCK_TO_CART, STOCK_TO_ORDER, PAYMENT_TO_STOCK}
 use Rattle.market_events.specs.declared.links.TheConstants.{PAYMENT_TO_ORDER}
 use Rattle.market_events.specs.declared.requests.Ask.TheVariants as ask
-use Rattle.market_events.specs.Examples.{a_key, an_id, a_line, request, makes, mug, basket, mug_change}
+use Rattle.market_events.specs.Examples.{a_key, an_id, a_line, makes, mug, basket, mug_change}
 use Rattle.market_events.specs.Examples.{mug_lines, mug_reserve, mug_reserved, mug_paid}
 use Rattle.market_events.specs.ExamplesStock.{hears, hears_mug, three_mugs, two_reserved, two_paid}
 use Rattle.market_events.specs.ExamplesStock.{two_set_free, three_products, reserve, mugs, cups, pots}
+use Rattle.market_events.specs.ExamplesStock.{asks_stock}
 use Rattle.market_events.specs.Services.{Role, fits, reactions}
 use Rattle.market_events.specs.Steps.{Step, Sending}
 
 abbrev pub stock_takes : List Step → Sending → Bool
 stock_takes steps taken = fits Role.Stock steps taken.0 taken.1
 
--- a change of the mug on link 1
+-- a change of the mug for stock
 abbrev pub mug_told : ℕ → Change → Sending
 mug_told version change = (PRODUCT_TO_STOCK, body.Changed mug version change)
 
@@ -50,13 +51,13 @@ abbrev pub hears_33 : List Step
 hears_33 = map (λ k. hears (a_key 8 k) 1 (change.Created 1000 50)) (range_with_len 1 33)
 
 pub record StockRequestFits : Type 0 where
-  pub new_request : stock_takes three_mugs (request 2 9 (ask.Level mug)) ≡ true
-  pub request_again : stock_takes three_mugs (request 2 2 (ask.Stock mug 3)) ≡ false
-  pub id_again_with_other_request : stock_takes three_mugs (request 2 2 (ask.Level mug)) ≡ false
-  pub view_is_for_the_cart : stock_takes three_mugs (request 2 9 (ask.View mug)) ≡ false
-  pub stock_0_pieces : stock_takes three_mugs (request 2 9 (ask.Stock mug 0)) ≡ false
-  pub stock_the_most_pieces : stock_takes three_mugs (request 2 9 (ask.Stock mug 1000000000)) ≡ true
-  pub stock_more_than_the_most : stock_takes three_mugs (request 2 9 (ask.Stock mug 1000000001)) ≡ false
+  pub new_request : stock_takes three_mugs (asks_stock 9 (ask.Level mug)) ≡ true
+  pub request_again : stock_takes three_mugs (asks_stock 2 (ask.Stock mug 3)) ≡ false
+  pub id_again_with_other_request : stock_takes three_mugs (asks_stock 2 (ask.Level mug)) ≡ false
+  pub view_is_for_the_cart : stock_takes three_mugs (asks_stock 9 (ask.View mug)) ≡ false
+  pub stock_0_pieces : stock_takes three_mugs (asks_stock 9 (ask.Stock mug 0)) ≡ false
+  pub stock_the_most_pieces : stock_takes three_mugs (asks_stock 9 (ask.Stock mug 1000000000)) ≡ true
+  pub stock_more_than_the_most : stock_takes three_mugs (asks_stock 9 (ask.Stock mug 1000000001)) ≡ false
 
 pub record StockChangeFits : Type 0 where
   pub first_creation : stock_takes [] (mug_told 1 (change.Created 1000 50)) ≡ true

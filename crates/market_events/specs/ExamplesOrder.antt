@@ -16,6 +16,7 @@ use Rattle.market_events.specs.declared.requests.Ask.TheVariants as ask
 use Rattle.market_events.specs.Examples.{an_id, a_line, an_item, strange_item, request, answer, refusal}
 use Rattle.market_events.specs.Examples.{makes, quiet, mug, cup, basket, mug_reserved, mug_invoice, mug_paid}
 use Rattle.market_events.specs.Examples.{mug_shipped, mug_ended}
+use Rattle.market_events.specs.Links.{order_node}
 use Rattle.market_events.specs.Services.{Role, answers}
 use Rattle.market_events.specs.Steps.{Step, Sending}
 
@@ -74,13 +75,13 @@ half_delivered =
 
 -- request 9 asks for the order of checkout 5, or of checkout 6
 abbrev pub ask_5 : Sending
-ask_5 = request 3 9 (ask.Order basket)
+ask_5 = request order_node 9 (ask.Order basket)
 
 abbrev pub ask_6 : Sending
-ask_6 = request 3 9 (ask.Order (an_id 7 6))
+ask_6 = request order_node 9 (ask.Order (an_id 7 6))
 
 abbrev pub is_at : OrderStatus → ℕ → List Sending
-is_at status total = answer 3 9 (reply.OrderState status total) ∷ []
+is_at status total = answer order_node 9 (reply.OrderState status total) ∷ []
 
 pub record OrderExamples : Type 0 where
   pub invoice_of_base : order_makes [] (STOCK_TO_ORDER, mug_reserved)
@@ -98,8 +99,8 @@ pub record OrderExamples : Type 0 where
         ∷ []),
   ) ≡ []
   -- an order through its life
-  pub order_of_no_checkout : order_makes [] ask_5 ≡ refusal 3 9 rule.NoOrder ∷ []
-  pub order_of_other_checkout : order_makes mug_is_paid ask_6 ≡ refusal 3 9 rule.NoOrder ∷ []
+  pub order_of_no_checkout : order_makes [] ask_5 ≡ refusal order_node 9 rule.NoOrder ∷ []
+  pub order_of_other_checkout : order_makes mug_is_paid ask_6 ≡ refusal order_node 9 rule.NoOrder ∷ []
   pub order_invoiced : order_makes mug_invoiced ask_5 ≡ is_at status.Invoiced 1950
   pub order_paid : order_makes mug_is_paid ask_5 ≡ is_at status.Paid 1950
   pub order_shipped : order_makes mug_is_shipped ask_5 ≡ is_at status.Shipped 1950

@@ -12,6 +12,7 @@ use Rattle.market_events.specs.declared.replies.Reply.TheVariants as reply
 use Rattle.market_events.specs.declared.requests.Ask.TheVariants as ask
 use Rattle.market_events.specs.Examples.{an_id, a_line, request, answer, makes, mug, basket, mug_lines}
 use Rattle.market_events.specs.Examples.{mug_invoice, mug_paid}
+use Rattle.market_events.specs.Links.{payment_node}
 use Rattle.market_events.specs.Services.{Role, answers}
 use Rattle.market_events.specs.Steps.{Step, Sending}
 
@@ -21,7 +22,8 @@ payment_makes steps taken = answers Role.Payment steps taken.0 taken.1
 -- the card of a customer with this limit, by the request with this number
 abbrev pub sets_card : ℕ → ℕ → ℕ → Step
 sets_card number customer limit =
-    makes (request 4 number (ask.Card customer limit)) (answer 4 number (reply.Card limit) ∷ [])
+    makes (request payment_node number (ask.Card customer limit))
+    (answer payment_node number (reply.Card limit) ∷ [])
 
 -- that the checkout is paid goes to stock, customers, sellers, orders and shipments
 abbrev pub to_five : Body → List Sending
@@ -60,9 +62,10 @@ abbrev pub free_bill : Sending
 free_bill = (ORDER_TO_PAYMENT, body.Invoice basket 7 free_lines 0)
 
 pub record PaymentExamples : Type 0 where
-  pub card_is_told : payment_makes [] (request 4 9 (ask.Card 7 10000)) ≡ answer 4 9 (reply.Card 10000) ∷ []
-  pub card_again_is_told : payment_makes (sets_card 3 7 10000 ∷ []) (request 4 9 (ask.Card 7 500))
-      ≡ answer 4 9 (reply.Card 500) ∷ []
+  pub card_is_told : payment_makes [] (request payment_node 9 (ask.Card 7 10000))
+      ≡ answer payment_node 9 (reply.Card 10000) ∷ []
+  pub card_again_is_told : payment_makes (sets_card 3 7 10000 ∷ []) (request payment_node 9 (ask.Card 7 500))
+      ≡ answer payment_node 9 (reply.Card 500) ∷ []
   pub invoice_of_base : payment_makes (sets_card 3 7 10000 ∷ []) mug_bill ≡ to_five mug_paid
   pub invoice_at_the_limit : payment_makes (sets_card 3 7 1950 ∷ []) mug_bill ≡ to_five mug_paid
   pub invoice_one_over_the_limit : payment_makes (sets_card 3 7 1949 ∷ []) mug_bill ≡ fails_by pay.OverLimit

@@ -14,6 +14,7 @@ use Rattle.market_events.specs.declared.replies.Reply.TheVariants as reply
 use Rattle.market_events.specs.declared.requests.Ask.TheVariants as ask
 use Rattle.market_events.specs.Examples.{a_key, an_id, a_line, an_item, strange_item, request, answer, quiet}
 use Rattle.market_events.specs.Examples.{mug, cup, pot, basket, mug_invoice, mug_paid, mug_shipped}
+use Rattle.market_events.specs.Links.{seller_node}
 use Rattle.market_events.specs.Services.{Role, answers}
 use Rattle.market_events.specs.Steps.{Step, Sending}
 
@@ -22,10 +23,10 @@ seller_makes steps taken = answers Role.Seller steps taken.0 taken.1
 
 -- request 9 asks for the dashboard of a seller
 abbrev pub ask_of : ℕ → Sending
-ask_of seller = request 7 9 (ask.Dashboard seller)
+ask_of seller = request seller_node 9 (ask.Dashboard seller)
 
 abbrev pub shows : ℕ → ℕ → ℕ → List EntryRow → List Sending
-shows point number amount rows = answer 7 9 (reply.Dashboard point number amount rows) ∷ []
+shows point number amount rows = answer seller_node 9 (reply.Dashboard point number amount rows) ∷ []
 
 -- a row of checkout, product, quantity, amount and status
 abbrev pub a_row : RequestId → ℕ → ℕ → ℕ → OrderStatus → EntryRow

@@ -11,6 +11,7 @@ use Rattle.market_events.specs.declared.replies.Reply.TheVariants as reply
 use Rattle.market_events.specs.declared.requests.Ask.TheVariants as ask
 use Rattle.market_events.specs.Examples.{a_key, an_id, a_line, an_item, request, answer, makes, mug, cup, pot}
 use Rattle.market_events.specs.Examples.{basket, mug_paid, mug_shipped}
+use Rattle.market_events.specs.Links.{shipment_node}
 use Rattle.market_events.specs.Services.{Role, answers}
 use Rattle.market_events.specs.Steps.{Step, Sending}
 
@@ -28,16 +29,16 @@ ships n total keys =
 
 -- the request with this number asks for a delivery, which is of these sellers and packages
 abbrev pub deliver : ℕ → Sending
-deliver number = request 5 number ask.Deliver
+deliver number = request shipment_node number ask.Deliver
 
 abbrev pub arrive : ℕ → ℕ → ℕ → List Item → List Sending
 arrive number sellers count items =
     (SHIPMENT_TO_CUSTOMER, body.Delivered items) ∷ (SHIPMENT_TO_SELLER, body.Delivered items)
     ∷ (SHIPMENT_TO_ORDER, body.Delivered items)
-    ∷ answer 5 number (reply.Delivered sellers count) ∷ []
+    ∷ answer shipment_node number (reply.Delivered sellers count) ∷ []
 
 abbrev pub nothing_arrives : ℕ → List Sending
-nothing_arrives number = answer 5 number (reply.Delivered 0 0) ∷ []
+nothing_arrives number = answer shipment_node number (reply.Delivered 0 0) ∷ []
 
 abbrev pub base_shipped : List Step
 base_shipped =

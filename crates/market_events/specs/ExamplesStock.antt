@@ -10,18 +10,32 @@ use Rattle.market_events.specs.declared.changes.Change.{Change}
 use Rattle.market_events.specs.declared.changes.Change.TheVariants as change
 use Rattle.market_events.specs.declared.links.TheConstants.{PRODUCT_TO_STOCK, CART_TO_STOCK, STOCK_TO_CART}
 use Rattle.market_events.specs.declared.links.TheConstants.{STOCK_TO_ORDER, PAYMENT_TO_STOCK}
+use Rattle.market_events.specs.declared.replies.Reply.{Reply}
 use Rattle.market_events.specs.declared.replies.Reply.TheVariants as reply
+use Rattle.market_events.specs.declared.replies.Rule.{Rule}
 use Rattle.market_events.specs.declared.replies.Rule.TheVariants as rule
+use Rattle.market_events.specs.declared.requests.Ask.{Ask}
 use Rattle.market_events.specs.declared.requests.Ask.TheVariants as ask
 use Rattle.market_events.specs.Examples.{an_id, a_line, request, answer, refusal, makes, quiet, mug, cup, pot}
 use Rattle.market_events.specs.Examples.{basket, mug_change, mug_reserve, mug_reserved, mug_paid}
+use Rattle.market_events.specs.Links.{stock_node}
 use Rattle.market_events.specs.Services.{Role, answers}
 use Rattle.market_events.specs.Steps.{Step, Sending}
 
 abbrev pub stock_makes : List Step → Sending → List Sending
 stock_makes steps taken = answers Role.Stock steps taken.0 taken.1
 
--- the change comes on link 1
+-- the request of caller 7 with this number for this service, and what the caller is told of it
+abbrev pub asks_stock : ℕ → Ask → Sending
+asks_stock = request stock_node
+
+abbrev pub stock_tells : ℕ → Reply → Sending
+stock_tells = answer stock_node
+
+abbrev pub stock_refuses : ℕ → Rule → Sending
+stock_refuses = refusal stock_node
+
+-- the change comes from the product service
 abbrev pub hears : ProductKey → ℕ → Change → Step
 hears key version change = quiet (PRODUCT_TO_STOCK, body.Changed key version change)
 
@@ -31,7 +45,7 @@ hears_mug = quiet (PRODUCT_TO_STOCK, mug_change)
 -- request with this number stocks pieces, of which there were none
 abbrev pub stocks : ℕ → ProductKey → ℕ → Step
 stocks number key pieces =
-    makes (request 2 number (ask.Stock key pieces)) (answer 2 number (reply.Stocked pieces) ∷ [])
+    makes (asks_stock number (ask.Stock key pieces)) (stock_tells number (reply.Stocked pieces) ∷ [])
 
 -- there are three mugs, of which two are reserved, and then paid or set free
 abbrev pub three_mugs : List Step
@@ -78,38 +92,41 @@ abbrev pub pots : ℕ → PricedLine
 pots n = a_line pot n 30 60 0
 
 pub record StockedExamples : Type 0 where
-  pub stock_of_unknown : stock_makes [] (request 2 9 (ask.Stock mug 3)) ≡ refusal 2 9 rule.Unknown ∷ []
-  pub stock_of_gone : stock_makes three_products (request 2 9 (ask.Stock pot 3)) ≡ refusal 2 9 rule.Gone ∷ []
-  pub stock_of_live : stock_makes (hears_mug ∷ []) (request 2 9 (ask.Stock mug 3))
-      ≡ answer 2 9 (reply.Stocked 3) ∷ []
-  pub stock_again : stock_makes three_mugs (request 2 9 (ask.Stock mug 4)) ≡ answer 2 9 (reply.Stocked 7) ∷ []
-  pub stock_beside_reserved : stock_makes two_reserved (request 2 9 (ask.Stock mug 4))
-      ≡ answer 2 9 (reply.Stocked 7) ∷ []
-  pub stock_after_payment : stock_makes two_paid (request 2 9 (ask.Stock mug 4))
-      ≡ answer 2 9 (reply.Stocked 5) ∷ []
-  pub stock_up_to_the_most : stock_makes nearly_full (request 2 9 (ask.Stock mug 1))
-      ≡ answer 2 9 (reply.Stocked 1000000000) ∷ []
-  pub stock_over_the_most : stock_makes nearly_full (request 2 9 (ask.Stock mug 2))
-      ≡ refusal 2 9 rule.StockOver ∷ []
+  pub stock_of_unknown : stock_makes [] (asks_stock 9 (ask.Stock mug 3)) ≡ stock_refuses 9 rule.Unknown ∷ []
+  pub stock_of_gone : stock_makes three_products (asks_stock 9 (ask.Stock pot 3))
+      ≡ stock_refuses 9 rule.Gone ∷ []
+  pub stock_of_live : stock_makes (hears_mug ∷ []) (asks_stock 9 (ask.Stock mug 3))
+      ≡ stock_tells 9 (reply.Stocked 3) ∷ []
+  pub stock_again : stock_makes three_mugs (asks_stock 9 (ask.Stock mug 4))
+      ≡ stock_tells 9 (reply.Stocked 7) ∷ []
+  pub stock_beside_reserved : stock_makes two_reserved (asks_stock 9 (ask.Stock mug 4))
+      ≡ stock_tells 9 (reply.Stocked 7) ∷ []
+  pub stock_after_payment : stock_makes two_paid (asks_stock 9 (ask.Stock mug 4))
+      ≡ stock_tells 9 (reply.Stocked 5) ∷ []
+  pub stock_up_to_the_most : stock_makes nearly_full (asks_stock 9 (ask.Stock mug 1))
+      ≡ stock_tells 9 (reply.Stocked 1000000000) ∷ []
+  pub stock_over_the_most : stock_makes nearly_full (asks_stock 9 (ask.Stock mug 2))
+      ≡ stock_refuses 9 rule.StockOver ∷ []
 
 pub record LevelExamples : Type 0 where
-  pub level_of_unknown : stock_makes three_mugs (request 2 9 (ask.Level cup)) ≡ refusal 2 9 rule.Unknown ∷ []
-  pub level_of_none : stock_makes (hears_mug ∷ []) (request 2 9 (ask.Level mug))
-      ≡ answer 2 9 (reply.Level 0 0) ∷ []
-  pub level_of_three : stock_makes three_mugs (request 2 9 (ask.Level mug))
-      ≡ answer 2 9 (reply.Level 3 0) ∷ []
-  pub level_of_gone : stock_makes three_products (request 2 9 (ask.Level pot))
-      ≡ answer 2 9 (reply.Level 5 0) ∷ []
-  pub level_of_reserved : stock_makes two_reserved (request 2 9 (ask.Level mug))
-      ≡ answer 2 9 (reply.Level 3 2) ∷ []
-  pub level_after_payment : stock_makes two_paid (request 2 9 (ask.Level mug))
-      ≡ answer 2 9 (reply.Level 1 0) ∷ []
-  pub level_after_failure : stock_makes two_set_free (request 2 9 (ask.Level mug))
-      ≡ answer 2 9 (reply.Level 3 0) ∷ []
+  pub level_of_unknown : stock_makes three_mugs (asks_stock 9 (ask.Level cup))
+      ≡ stock_refuses 9 rule.Unknown ∷ []
+  pub level_of_none : stock_makes (hears_mug ∷ []) (asks_stock 9 (ask.Level mug))
+      ≡ stock_tells 9 (reply.Level 0 0) ∷ []
+  pub level_of_three : stock_makes three_mugs (asks_stock 9 (ask.Level mug))
+      ≡ stock_tells 9 (reply.Level 3 0) ∷ []
+  pub level_of_gone : stock_makes three_products (asks_stock 9 (ask.Level pot))
+      ≡ stock_tells 9 (reply.Level 5 0) ∷ []
+  pub level_of_reserved : stock_makes two_reserved (asks_stock 9 (ask.Level mug))
+      ≡ stock_tells 9 (reply.Level 3 2) ∷ []
+  pub level_after_payment : stock_makes two_paid (asks_stock 9 (ask.Level mug))
+      ≡ stock_tells 9 (reply.Level 1 0) ∷ []
+  pub level_after_failure : stock_makes two_set_free (asks_stock 9 (ask.Level mug))
+      ≡ stock_tells 9 (reply.Level 3 0) ∷ []
   pub level_after_refusal :
-      stock_makes (nearly_full ++ makes (request 2 8 (ask.Stock mug 2)) (refusal 2 8 rule.StockOver ∷ [])
-      ∷ []) (request 2 9 (ask.Level mug))
-      ≡ answer 2 9 (reply.Level 999999999 0) ∷ []
+      stock_makes (nearly_full ++ makes (asks_stock 8 (ask.Stock mug 2)) (stock_refuses 8 rule.StockOver ∷ [])
+      ∷ []) (asks_stock 9 (ask.Level mug))
+      ≡ stock_tells 9 (reply.Level 999999999 0) ∷ []
 
 pub record ReserveExamples : Type 0 where
   pub reserve_of_base : stock_makes three_mugs (CART_TO_STOCK, mug_reserve)

@@ -1,4 +1,5 @@
 pub mod Requests
+pub mod Entries
 pub mod Copies
 pub mod Looks
 pub mod WellFormed

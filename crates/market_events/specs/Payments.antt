@@ -34,7 +34,7 @@ abbrev pub total_paid : ℕ → Body → ℕ
 total_paid customer (body.Confirmed checkout c lines total) = if c == customer then total else 0
 total_paid customer other = 0
 
--- the totals of the customer's payments, which were made on link 8
+-- the totals of the customer's payments, which stock is told of
 abbrev pub spent : List Step → ℕ → ℕ
 spent steps customer = sum_by (total_paid customer) (made_on PAYMENT_TO_STOCK steps)
 

@@ -23,7 +23,7 @@ abbrev pub change_in : Body → Option ProductChange
 change_in (body.Changed key version change) = Some (record { key = key; version = version; change = change })
 change_in other = None
 
--- the changes that were made on link 1
+-- the changes that were made, for stock
 abbrev pub changes_made : List Step → List ProductChange
 changes_made steps = filter_map change_in (made_on PRODUCT_TO_STOCK steps)
 

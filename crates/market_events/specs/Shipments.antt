@@ -27,7 +27,7 @@ packages_in other = []
 abbrev pub packages : List Step → List Item
 packages steps = flat_map packages_in (taken_bodies steps)
 
--- the items of the deliveries, which were made on link 15
+-- the items of the deliveries, which customers are told of
 abbrev pub items_made : List Step → List Item
 items_made steps = flat_map items_in (made_on SHIPMENT_TO_CUSTOMER steps)
 

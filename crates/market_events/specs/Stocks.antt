@@ -50,7 +50,7 @@ reservation_in (body.StockConfirmed checkout customer lines) =
     Some (record { checkout = checkout; customer = customer; lines = lines })
 reservation_in other = None
 
--- the reservations that were made, on link 4
+-- the reservations that were made, for orders
 abbrev pub reservations : List Step → List Reservation
 reservations steps = filter_map reservation_in (made_on STOCK_TO_ORDER steps)
 

@@ -3,18 +3,14 @@ use Rattle.std.proofs.Common.{◌≡◌, ℕ, ◌^◌, ◌<◌, ◌≤◌, true,
 use Rattle.std.specs.List.{AllByRecursion}
 use Rattle.std.proofs.lemmas.List.{ext_get_or}
 use Rattle.std.proofs.lemmas.List.FromFn.{length-map-range_with_len, get_or-map-range_with_len}
-use Rattle.market_amounts.specs.declared.keys.RequestId.{RequestId}
 use Rattle.market_events.specs.declared.events.Entry.{Entry}
 use Rattle.market_events.specs.declared.events.Event.{Event}
-use Rattle.market_events.specs.declared.events.What.TheVariants.{Given, Taken, Made, Answered}
+use Rattle.market_events.specs.declared.events.What.TheVariants.{Taken, Made}
 use Rattle.market_events.specs.declared.links.Link.TheVariants.{Service}
 use Rattle.market_events.specs.declared.links.TheConstants.{SERVICE_LINKS}
-use Rattle.market_events.specs.declared.replies.Reply.{Reply}
-use Rattle.market_events.specs.declared.requests.Request.{Request}
 use Rattle.market_events.specs.Counts.{AreCounts}
 use Rattle.market_events.specs.Links.{same_link}
-use Rattle.market_history.specs.Causality.{number_on, count_in, count_told, known, past_of, RestsOn, HasPasts}
-use Rattle.market_history.proofs.StampLaws.{EachAfter-push}
+use Rattle.market_history.specs.Causality.{number_on, count_in, count_told, known, past_of}
 
 -- one entry more
 pub known-push : (xs : List Entry) (x : Entry) (k : ℕ) → known (xs ++ x ∷ []) k ≡ max (known xs k) (count_told x k)

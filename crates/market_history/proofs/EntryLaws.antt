@@ -14,10 +14,6 @@ AreEntriesFrom-push node place end (y ∷ ys) x here last at =
 pub IsJournal-push : (node : ℕ) (xs : List Entry) (x : Entry) → IsJournal node xs → IsEntry node (length xs) x → IsJournal node (xs ++ x ∷ [])
 IsJournal-push node xs x here last = AreEntriesFrom-push node 0 (length xs) xs x here last (omega arith)
 
-AreEntriesFrom-front : (node place : ℕ) (xs ys : List Entry) → AreEntriesFrom node place (xs ++ ys) → AreEntriesFrom node place xs
-AreEntriesFrom-front node place [] ys here = tt
-AreEntriesFrom-front node place (x ∷ xs) ys here = (here.0, AreEntriesFrom-front node (place + 1) xs ys here.1)
-
 AreEntriesFrom-at : (node place at : ℕ) (before : List Entry) (x : Entry) (after : List Entry) → AreEntriesFrom node place (before ++ x ∷ after) → at ≡ place + length before → IsEntry node at x
 AreEntriesFrom-at node place at [] x after here is =
     let e : place ≡ at = omega arith in subst (λ (n : ℕ). IsEntry node n x) e here.0

@@ -1,5 +1,5 @@
 -- What one block adds to a journal.
-use Rattle.std.proofs.Common.{◌≡◌, ℕ, ◌+◌, List, [], ◌∷◌, ◌++◌, Option, Some, None, length, length-append, refl, ap, sym, ◌∙◌, append-nil, append_assoc, arith}
+use Rattle.std.proofs.Common.{◌≡◌, ℕ, ◌+◌, List, [], ◌∷◌, ◌++◌, Option, Some, None, length, refl, ap, sym, ◌∙◌, append-nil, append_assoc, arith}
 use Rattle.std.specs.Prelude.{map, fold, filter_map}
 use Rattle.std.specs.Option.{option_to_list}
 use Rattle.std.proofs.lemmas.List.{map-append}
@@ -126,11 +126,6 @@ blocks_after-push n before [] input = append-nil (block n before input) ∙ ap (
 blocks_after-push n before (i ∷ is) input =
     ap (λ parts. block n before i ++ parts) (blocks_after-push n (before ++ i ∷ []) is input ∙ ap (λ l. blocks_after n (before ++ i ∷ []) is ++ block n l input) (append_assoc before (i ∷ []) is))
     ∙ sym (append_assoc (block n before i) (blocks_after n (before ++ i ∷ []) is) (block n (before ++ i ∷ is) input))
-
--- how many entries there are
-length-with_out : (entries : List Entry) (out : Out) → length (with_out entries out) ≡ length entries + 1
-length-with_out entries (Out.Makes link b) = length-append entries (entry_of entries (Made (next_event entries link b)) ∷ [])
-length-with_out entries (Out.Answers id reply) = length-append entries (entry_of entries (Answered id reply) ∷ [])
 
 -- the clock
 clock_before-with_out : (entries : List Entry) (out : Out) → clock_before (with_out entries out) ≡ clock_before entries + 1

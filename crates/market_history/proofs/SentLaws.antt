@@ -1,19 +1,16 @@
 -- One more entry of a journal, and the events of a link.
-use Rattle.std.proofs.Common.{◌≡◌, ℕ, ◌+◌, true, false, List, [], ◌∷◌, ◌++◌, Option, Some, None, length, refl, ap, subst, sym, ◌∙◌, arith, append_assoc}
+use Rattle.std.proofs.Common.{◌≡◌, ℕ, ◌+◌, true, List, [], ◌∷◌, ◌++◌, Option, Some, None, length, refl, ap, sym, ◌∙◌, arith, append_assoc}
 use Rattle.std.specs.Prelude.{map, slice_get}
 use Rattle.std.specs.List.{cons_option, filter_map, range_with_len}
 use Rattle.std.specs.Option.{option_to_list}
 use Rattle.std.proofs.lemmas.List.{append-nil}
 use Rattle.std.proofs.lemmas.List.Elements.{filter_map-append}
-use Rattle.market_amounts.specs.declared.keys.RequestId.{RequestId}
 use Rattle.market_events.specs.declared.events.Entry.{Entry}
 use Rattle.market_events.specs.declared.events.Event.{Event}
-use Rattle.market_events.specs.declared.events.What.TheVariants.{Given, Taken, Made, Answered}
+use Rattle.market_events.specs.declared.events.What.TheVariants.{Taken, Made}
 use Rattle.market_events.specs.declared.links.Link.{Link}
-use Rattle.market_events.specs.declared.requests.Request.{Request}
-use Rattle.market_events.specs.declared.replies.Reply.{Reply}
 use Rattle.market_events.specs.Links.{same_link}
-use Rattle.market_history.specs.Sent.{event_on, event_made_on, got_on, sent, got, IsNumbered, IsPrefixOf, IsMatchedOn}
+use Rattle.market_history.specs.Sent.{event_on, event_made_on, got_on, sent, got, IsNumbered, IsPrefixOf}
 
 -- one element more gives at most one more
 pub filter_map-push : {A B : Type 0} (f : A → Option B) (xs : List A) (x : A) → filter_map f (xs ++ x ∷ []) ≡ filter_map f xs ++ option_to_list (f x)
@@ -33,9 +30,6 @@ got-push link xs x = filter_map-push (λ (y : Entry). got_on link y.what) xs x
 -- an event on the link, and one on another
 event_on-same : (link : Link) (event : Event) → same_link event.link link ≡ true → event_on link event ≡ Some event
 event_on-same link event same = rw same
-
-event_on-other : (link : Link) (event : Event) → same_link event.link link ≡ false → event_on link event ≡ None
-event_on-other link event other = rw other
 
 -- the entry made this event on the link
 pub sent-push-some : (link : Link) (xs : List Entry) (x : Entry) (event : Event) → event_made_on link x.what ≡ Some event → sent link (xs ++ x ∷ []) ≡ sent link xs ++ event ∷ []

@@ -3,7 +3,7 @@ use Rattle.std.proofs.Common.{◌≡◌, List, [], ◌∷◌, ◌++◌, Option, 
 use Rattle.std.specs.List.{last_or}
 use Rattle.std.proofs.lemmas.List.{append-nil}
 use Rattle.market_events.specs.declared.events.Entry.{Entry}
-use Rattle.market_history.specs.Stamps.{EachAfter, clock_in, clock_before, IsStampedAfter, IsStamped}
+use Rattle.market_history.specs.Stamps.{EachAfter, clock_in, clock_before}
 
 -- one element more, after all those before it
 pub EachAfter-push : {A : Type 0} (P : List A → A → Type 0) (before xs : List A) (x : A) → EachAfter P before xs → P (before ++ xs) x → EachAfter P before (xs ++ x ∷ [])

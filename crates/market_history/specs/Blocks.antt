@@ -17,6 +17,7 @@ use Rattle.market_events.specs.Links.{cart_node, product_node, stock_node, order
 use Rattle.market_events.specs.Links.{shipment_node, customer_node, service_by_ask}
 use Rattle.market_events.specs.Requests.{lane_of}
 use Rattle.market_events.specs.declared.roles.Role.{Role}
+use Rattle.market_events.specs.declared.roles.TheConstants.{SERVICES}
 use Rattle.market_events.specs.Services.{node_of, fits, reactions}
 use Rattle.market_events.specs.Standing.{with_step}
 use Rattle.market_events.specs.Steps.{Step, Sending}
@@ -101,7 +102,7 @@ lane_outs (Input.Takes from b) = told_outs b
 
 -- how many of the nodes are services; those after them are lanes
 abbrev pub services : ℕ
-services = 8
+services = SERVICES
 
 -- what the node makes of an input, after those that came before it
 unfoldable pub node_outs : ℕ → List Input → Input → List Out

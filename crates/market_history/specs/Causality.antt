@@ -32,7 +32,7 @@ abbrev pub known : List Entry → ℕ → ℕ
 known [] k = 0
 known (x ∷ xs) k = max (count_told x k) (known xs k)
 
--- the greatest counts that the entries tell of, from service link 0 on
+-- the greatest counts that the entries tell of, from the first service link on
 unfoldable pub past_of : List Entry → List ℕ
 past_of entries = map (known entries) (range_with_len 0 SERVICE_LINKS)
 

@@ -13,6 +13,8 @@ use Rattle.market_events.specs.declared.replies.Reply.{Reply}
 use Rattle.market_events.specs.declared.requests.Ask.{Ask}
 use Rattle.market_events.specs.declared.requests.Ask.TheVariants as ask
 use Rattle.market_events.specs.declared.requests.Request.{Request}
+use Rattle.market_events.specs.Links.{lane_node}
+use Rattle.market_events.specs.Requests.{lane_of}
 use Rattle.market_history.specs.declared.schedule.Step.{Step}
 use Rattle.market_history.specs.declared.schedule.Step.TheVariants as step
 
@@ -27,7 +29,14 @@ id number = record { caller = 7; number = number }
 abbrev pub request : ℕ → Ask → Request
 request number ask = record { id = id number; ask = ask }
 
--- given to lane 7, and offered
+-- the lane of this caller, and its node
+abbrev pub caller_lane : ℕ
+caller_lane = lane_of (id 1)
+
+abbrev pub caller_node : ℕ
+caller_node = lane_node caller_lane
+
+-- given to this lane, and offered
 abbrev pub give : ℕ → Ask → Step
 give number ask = step.Give (request number ask)
 

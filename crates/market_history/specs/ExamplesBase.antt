@@ -5,7 +5,6 @@ use Rattle.market_events.specs.declared.bodies.Item.{Item}
 use Rattle.market_events.specs.declared.bodies.PricedLine.{PricedLine}
 use Rattle.market_events.specs.declared.changes.Change.TheVariants.{Created}
 use Rattle.market_events.specs.declared.changes.Look.TheVariants.{Live}
-use Rattle.market_events.specs.declared.links.Link.TheVariants.{Asked, Told}
 use Rattle.market_events.specs.declared.links.TheConstants.{PRODUCT_TO_CART, PRODUCT_TO_STOCK, CART_TO_STOCK}
 use Rattle.market_events.specs.declared.links.TheConstants.{STOCK_TO_ORDER, ORDER_TO_PAYMENT, ORDER_TO_SELLER}
 use Rattle.market_events.specs.declared.links.TheConstants.{ORDER_TO_CART, PAYMENT_TO_STOCK, PAYMENT_TO_ORDER}
@@ -16,7 +15,8 @@ use Rattle.market_events.specs.declared.replies.EntryRow.{EntryRow}
 use Rattle.market_events.specs.declared.replies.OrderStatus.TheVariants as status
 use Rattle.market_events.specs.declared.replies.Reply.TheVariants as reply
 use Rattle.market_events.specs.declared.requests.Ask.TheVariants as ask
-use Rattle.market_events.specs.Links.{cart_node, product_node}
+use Rattle.market_events.specs.Examples.{asked_by_7, told_to_7}
+use Rattle.market_events.specs.Links.{cart_node, product_node, stock_node, payment_node}
 use Rattle.market_events.specs.Stocks.{Reservation}
 use Rattle.market_history.specs.Output.{summary_of}
 use Rattle.market_history.specs.declared.schedule.Step.{Step}
@@ -31,21 +31,21 @@ use Rattle.market_history.specs.Schedule.{play}
 
 -- a request that a service answers at once
 abbrev pub answered_by : ℕ → ℕ → ℕ → List Step
-answered_by service asked told = offer (Asked 7 service) asked ∷ offer (Told service 7) told ∷ []
+answered_by service asked told = offer (asked_by_7 service) asked ∷ offer (told_to_7 service) told ∷ []
 
 abbrev pub base_steps : List Step
 base_steps =
-    give 1 create ∷ offer (Asked 7 product_node) 1 ∷ offer PRODUCT_TO_STOCK 1 ∷ offer PRODUCT_TO_CART 1
-    ∷ offer (Told product_node 7) 1
-    ∷ give 2 (ask.Stock mug 3) ∷ (answered_by 2 1 1 ++
-    give 3 (ask.Card 7 10000) ∷ (answered_by 4 1 1 ++
-    give 4 (ask.Line 7 mug 2 100) ∷ (answered_by 0 1 1 ++
-    give 5 (ask.Checkout 7) ∷ offer (Asked 7 cart_node) 2
+    give 1 create ∷ offer (asked_by_7 product_node) 1 ∷ offer PRODUCT_TO_STOCK 1 ∷ offer PRODUCT_TO_CART 1
+    ∷ offer (told_to_7 product_node) 1
+    ∷ give 2 (ask.Stock mug 3) ∷ (answered_by stock_node 1 1 ++
+    give 3 (ask.Card 7 10000) ∷ (answered_by payment_node 1 1 ++
+    give 4 (ask.Line 7 mug 2 100) ∷ (answered_by cart_node 1 1 ++
+    give 5 (ask.Checkout 7) ∷ offer (asked_by_7 cart_node) 2
     ∷ offer CART_TO_STOCK 1 ∷ offer STOCK_TO_ORDER 1 ∷ offer ORDER_TO_SELLER 1 ∷ offer ORDER_TO_PAYMENT 1
     ∷ offer PAYMENT_TO_STOCK 1 ∷ offer PAYMENT_TO_CUSTOMER 1 ∷ offer PAYMENT_TO_SELLER 1
     ∷ offer PAYMENT_TO_ORDER 1 ∷ offer PAYMENT_TO_SHIPMENT 1
     ∷ offer SHIPMENT_TO_SELLER 1 ∷ offer SHIPMENT_TO_ORDER 1 ∷ offer ORDER_TO_CART 1
-    ∷ offer (Told cart_node 7) 2
+    ∷ offer (told_to_7 cart_node) 2
     ∷ [])))
 
 abbrev pub base : Histories

@@ -3,9 +3,9 @@ use Rattle.std.specs.Prelude.{◌≡◌, ℕ, List, [], ◌∷◌, replicate}
 use Rattle.market_events.specs.declared.bodies.Body.TheVariants as body
 use Rattle.market_events.specs.declared.events.Event.{Event}
 use Rattle.market_events.specs.declared.events.Offer.TheVariants as offers
-use Rattle.market_events.specs.declared.links.Link.TheVariants.{Asked, Told}
 use Rattle.market_events.specs.declared.links.TheConstants.{PRODUCT_TO_CART, PRODUCT_TO_STOCK}
 use Rattle.market_events.specs.declared.replies.Reply.TheVariants as reply
+use Rattle.market_events.specs.Examples.{asked_by_7, told_to_7}
 use Rattle.market_events.specs.Links.{product_node}
 use Rattle.market_history.specs.declared.schedule.Give.TheVariants as gives
 use Rattle.market_history.specs.declared.schedule.Outcome.TheVariants as outcome
@@ -19,9 +19,9 @@ use Rattle.market_history.specs.Schedule.{outcomes, play, merged}
 abbrev pub past : ℕ → ℕ → List ℕ
 past zeroth first = zeroth ∷ first ∷ replicate 14 0
 
--- lane 7 asks the product service
+-- the lane of caller 7 asks the product service
 abbrev pub asked : Event
-asked = event (Asked 7 product_node) 1 2 (past 0 0) (body.Asked (request 1 create))
+asked = event (asked_by_7 product_node) 1 2 (past 0 0) (body.Asked (request 1 create))
 
 -- the product service tells stock first, then the cart, then the lane
 abbrev pub to_stock : Event
@@ -31,9 +31,9 @@ abbrev pub to_cart : Event
 to_cart = event PRODUCT_TO_CART 1 5 (past 0 1) created
 
 abbrev pub to_lane : Event
-to_lane = event (Told product_node 7) 1 6 (past 1 1) (body.Told (id 1) (reply.Created 1))
+to_lane = event (told_to_7 product_node) 1 6 (past 1 1) (body.Told (id 1) (reply.Created 1))
 
--- cart, product service, stock and lane 7 have entries
+-- cart, product service, stock and the lane have entries
 abbrev pub after_create : Histories
 after_create =
     (taken 6 to_cart ∷ [])
@@ -44,9 +44,9 @@ after_create =
     ∷ [] ∷ [] ∷ [] ∷ [] ∷ [] ∷ [] ∷ [] ∷ [] ∷ []
 
 abbrev pub create_steps : List Step
-create_steps = give 1 create ∷ offer (Asked 7 product_node) 1 ∷ offer PRODUCT_TO_STOCK 1
+create_steps = give 1 create ∷ offer (asked_by_7 product_node) 1 ∷ offer PRODUCT_TO_STOCK 1
     ∷ offer PRODUCT_TO_CART 1
-    ∷ offer (Told product_node 7) 1 ∷ []
+    ∷ offer (told_to_7 product_node) 1 ∷ []
 
 pub record CreateExamples : Type 0 where
   -- the steps leave these histories

@@ -5,7 +5,7 @@ use Rattle.market_events.specs.declared.nodes.TheConstants.{NODES}
 use Rattle.market_history.specs.Journals.{JournalState, IsJournal}
 use Rattle.market_history.specs.Sent.{IsPrefixOf}
 
--- the entries of each node, from node 0 on
+-- the entries of each node, in the order of the nodes
 abbrev pub Histories : Type 0
 Histories = List (List Entry)
 

@@ -17,6 +17,8 @@ use Rattle.market_events.specs.Counts.{AreCounts}
 use Rattle.market_events.specs.Links.{IsLink, lane_node, sender_of, receiver_of}
 use Rattle.market_events.specs.Requests.{lane_of}
 use Rattle.market_events.specs.WellFormed.{IsWellFormedEntry}
+use Rattle.market_events.specs.declared.nodes.TheConstants.{NODES}
+use Rattle.market_events.specs.declared.roles.TheConstants.{SERVICES}
 
 -- a journal: its node, its entries, and for how many more there is room
 pub record JournalState : Type 0 where
@@ -26,7 +28,7 @@ pub record JournalState : Type 0 where
 
 -- the node is a lane
 abbrev pub IsLane : ℕ → Type 0
-IsLane node = (8 ≤ node) × (node ≤ 23)
+IsLane node = (SERVICES ≤ node) × (node < NODES)
 
 -- the node's lane is that of the request that is asked
 abbrev pub IsAskedBy : ℕ → Body → Type 0
@@ -71,7 +73,7 @@ CanHappen node clock (Answered id reply) = IsLane node × CanBeKept reply
 -- the entry may stand at this place of the node's journal, and is well formed
 pub record IsEntry (node place : ℕ) (entry : Entry) : Type 0 where
   pub formed : IsWellFormedEntry entry
-  pub node_high : node ≤ 23
+  pub node_high : node < NODES
   pub place_high : place < 4_294_967_295
   pub clock_high : entry.clock ≤ 2 ^ 62
   pub what : CanHappen node entry.clock entry.what

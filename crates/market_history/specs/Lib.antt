@@ -15,6 +15,7 @@ pub mod Book
 pub mod Output
 pub mod Examples
 pub mod ExamplesCreate
+pub mod ExamplesLinks
 pub mod ExamplesCausal
 pub mod ExamplesLane
 pub mod ExamplesBase

@@ -4,6 +4,7 @@ ghost use Rattle.market_history.specs.ExamplesBase.{BaseExamples};
 ghost use Rattle.market_history.specs.ExamplesCausal.{CausalExamples};
 ghost use Rattle.market_history.specs.ExamplesCreate.{CreateExamples};
 ghost use Rattle.market_history.specs.ExamplesLane.{LaneExamples};
+ghost use Rattle.market_history.specs.ExamplesLinks.{LinkExamples};
 
 /// The histories that one request to create a product leaves: clocks, numbers and pasts, and the schedule by
 /// which they came.
@@ -28,4 +29,10 @@ pub fn lane_examples()
 #[tactic(auto, using(crate::proofs::ExamplesBase::base_examples))]
 pub fn base_examples()
     ensures { BaseExamples }
+{}
+
+/// The journal of two changes: what is known in it, clocks, pasts and numbers, and what is before what.
+#[tactic(auto, using(crate::proofs::ExamplesLinks::link_examples))]
+pub fn link_examples()
+    ensures { LinkExamples }
 {}

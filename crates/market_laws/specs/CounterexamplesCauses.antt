@@ -13,7 +13,7 @@ use Rattle.market_events.specs.declared.replies.Reply.TheVariants as reply
 use Rattle.market_events.specs.declared.requests.Ask.TheVariants as ask
 use Rattle.market_events.specs.Links.{cart_node, stock_node, order_node, payment_node, shipment_node}
 use Rattle.market_history.specs.Checkouts.{is_kept_checkout}
-use Rattle.market_history.specs.Examples.{id, request, event, given, made}
+use Rattle.market_history.specs.Examples.{id, request, event, given, made, caller_lane, caller_node}
 use Rattle.market_history.specs.ExamplesCreate.{past}
 use Rattle.market_history.specs.Histories.{Histories, with_journal}
 use Rattle.market_history.specs.Lawful.{IsLawful}
@@ -31,14 +31,14 @@ twice link b = made (event link 1 1 (past 0 0) b) ∷ made (event link 2 2 (past
 -- a checkout is asked for once, and all that follows is made twice
 abbrev pub requested : Histories
 requested =
-    of_one 15 (given 1 (request 5 (ask.Checkout 7))
-    ∷ made (event (Asked 7 cart_node) 1 2 (past 0 0) (checkout_for 7)) ∷ [])
+    of_one caller_node (given 1 (request 5 (ask.Checkout 7))
+    ∷ made (event (Asked caller_lane cart_node) 1 2 (past 0 0) (checkout_for 7)) ∷ [])
 
 abbrev pub ordered : Histories
 ordered =
     with_journal (with_journal (with_journal requested
     cart_node (twice CART_TO_STOCK (reserve_for 7)
-    ++ twice (Told cart_node 7) (body.Told (id 5) (reply.Whole 1950))))
+    ++ twice (Told cart_node caller_lane) (body.Told (id 5) (reply.Whole 1950))))
     stock_node (twice STOCK_TO_ORDER (held_for 7)))
     order_node (twice ORDER_TO_SELLER (invoice_for 7)
     ++ twice ORDER_TO_CART (body.Ended (id 5) (ending.Whole 1950)))

@@ -1,5 +1,5 @@
 -- Histories that are not lawful, each with what the laws on lawful histories say, which is false of it.
-use Rattle.std.specs.Prelude.{◌≡◌, ℕ, ◌^◌, ◌<◌, ◌≤◌, List, [], ◌∷◌, slice_index, replicate, Contains}
+use Rattle.std.specs.Prelude.{◌≡◌, ℕ, ◌+◌, ◌^◌, ◌<◌, ◌≤◌, List, [], ◌∷◌, slice_index, replicate, Contains}
 use Rattle.std.specs.Prelude.{count_by}
 use Rattle.std.specs.List.{AllByRecursion, sum_by}
 use Rattle.market_events.specs.declared.bodies.Body.TheVariants as body
@@ -15,7 +15,7 @@ use Rattle.market_events.specs.declared.replies.Rule.TheVariants as rule
 use Rattle.market_events.specs.declared.requests.Ask.TheVariants as ask
 use Rattle.market_events.specs.declared.requests.Request.{Request}
 use Rattle.market_events.specs.Carts.{changes_taken}
-use Rattle.market_events.specs.Links.{cart_node, product_node, stock_node, order_node}
+use Rattle.market_events.specs.Links.{cart_node, product_node, stock_node, order_node, index_of}
 use Rattle.market_events.specs.Orders.{is_of}
 use Rattle.market_events.specs.Products.{changes_made}
 use Rattle.market_events.specs.declared.roles.Role.{Role}
@@ -26,7 +26,7 @@ use Rattle.market_history.specs.Blocks.{service_steps}
 use Rattle.market_history.specs.Causality.{IsBefore, events_taken}
 use Rattle.market_history.specs.Checkouts.{listed_reservations}
 use Rattle.market_history.specs.Examples.{mug, id, request, give, event, given, taken, made, answered, create}
-use Rattle.market_history.specs.Examples.{created}
+use Rattle.market_history.specs.Examples.{created, caller_lane, caller_node}
 use Rattle.market_history.specs.ExamplesCreate.{past, asked, to_stock, to_cart, to_lane}
 use Rattle.market_history.specs.Histories.{Histories, journal_at, with_journal, no_histories, IsHistories}
 use Rattle.market_history.specs.Lawful.{IsLawful, IsLawfulAt}
@@ -54,8 +54,8 @@ of_three m first n second k third = with_journal (of_two m first n second) k thi
 -- a lane's first request at clock 9
 abbrev pub given_late : Histories
 given_late =
-    of_one 15 (given 9 (request 1 create)
-    ∷ made (event (Asked 7 product_node) 1 10 (past 0 0) (asks_for 1 create)) ∷ [])
+    of_one caller_node (given 9 (request 1 create)
+    ∷ made (event (Asked caller_lane product_node) 1 10 (past 0 0) (asks_for 1 create)) ∷ [])
 
 -- a request for no pieces, which is not well formed
 abbrev pub misfit : Step
@@ -64,22 +64,26 @@ misfit = give 1 (ask.Stock mug 0)
 -- the same request, over and over
 unfoldable pub given_again : ℕ → Histories
 given_again n =
-    of_one 15 (given 1 (request 1 create) ∷ given 1 (request 1 create)
+    of_one caller_node (given 1 (request 1 create) ∷ given 1 (request 1 create)
     ∷ replicate n (given 1 (request 1 create)))
+
+-- the node of a lane that is not the caller's
+abbrev pub another_lane_node : ℕ
+another_lane_node = caller_node + 1
 
 -- a request at a lane that is not its own
 abbrev pub given_elsewhere : Histories
-given_elsewhere = of_one 11 (given 1 (request 1 create) ∷ [])
+given_elsewhere = of_one another_lane_node (given 1 (request 1 create) ∷ [])
 
 -- clocks that are not due, a request not well formed, too many entries, and an entry at another's place
 pub record GrowthCounterexamples : Type 0 where
   -- clocks_are_at_most_the_entries
   pub late_unlawful : IsLawful given_late → ⊥
   pub late_clocks : AllByRecursion (λ (x : Entry). x.clock ≤ total_entries given_late)
-      (journal_at given_late 15) → ⊥
+      (journal_at given_late caller_node) → ⊥
   -- lawful_journals_are_grown: neither
-  pub late_journal : IsLawfulAt 15 (journal_at given_late 15) → ⊥
-  pub late_grown : Grown 15 (journal_at given_late 15) → ⊥
+  pub late_journal : IsLawfulAt caller_node (journal_at given_late caller_node) → ⊥
+  pub late_grown : Grown caller_node (journal_at given_late caller_node) → ⊥
   -- play_keeps_lawful
   pub misfit_no_step : IsStep misfit → ⊥
   pub misfit_left : IsLawful (play no_histories (misfit ∷ [])) → ⊥
@@ -95,13 +99,13 @@ abbrev pub priced_unknown : Event
 priced_unknown = event PRODUCT_TO_CART 1 1 (past 0 0) (body.Changed mug 2 (Priced 1200))
 
 abbrev pub told_unasked : Event
-told_unasked = event (Told product_node 7) 1 2 (past 1 0) (body.Told (id 1) (reply.Priced 2))
+told_unasked = event (Told product_node caller_lane) 1 2 (past 1 0) (body.Told (id 1) (reply.Priced 2))
 
 abbrev pub from_nothing : Histories
 from_nothing =
     of_three product_node (made priced_unknown ∷ made told_unasked ∷ []) cart_node (taken 2 priced_unknown
     ∷ [])
-    15 (taken 3 told_unasked ∷ answered 4 (id 1) (reply.Priced 2) ∷ [])
+    caller_node (taken 3 told_unasked ∷ answered 4 (id 1) (reply.Priced 2) ∷ [])
 
 -- the cart and stock took changes that were never made
 abbrev pub never_made : Histories
@@ -113,15 +117,15 @@ view = request 2 (ask.View mug)
 -- a lane was given a request while the one before it had no reply
 abbrev pub given_while_waiting : Histories
 given_while_waiting =
-    of_one 15 (given 1 (request 1 create) ∷ made asked
-    ∷ given 3 view ∷ made (event (Asked 7 cart_node) 1 4 (past 0 0) (body.Asked view)) ∷ [])
+    of_one caller_node (given 1 (request 1 create) ∷ made asked
+    ∷ given 3 view ∷ made (event (Asked caller_lane cart_node) 1 4 (past 0 0) (body.Asked view)) ∷ [])
 
 -- events that do not fit, copies of no changes, and schedules that do not lead back
 pub record TakingCounterexamples : Type 0 where
   -- events_fit
   pub nothing_unlawful : IsLawful from_nothing → ⊥
   pub nothing_fits : EachFits cart_node (journal_at from_nothing cart_node) → ⊥
-  pub nothing_in_time : EachInTime (journal_at from_nothing 15) → ⊥
+  pub nothing_in_time : EachInTime (journal_at from_nothing caller_node) → ⊥
   -- copies_are_of_a_front
   pub never_unlawful : IsLawful never_made → ⊥
   pub never_cart : IsPrefixOf (changes_taken (service_steps never_made Role.Cart))
@@ -146,20 +150,21 @@ forgetting = event PRODUCT_TO_CART 1 5 (past 0 0) created
 abbrev pub forgetful : Histories
 forgetful =
     of_two product_node (taken 3 asked ∷ made to_stock ∷ made forgetting ∷ made to_lane ∷ [])
-    15 (given 1 (request 1 create) ∷ made asked ∷ [])
+    caller_node (given 1 (request 1 create) ∷ made asked ∷ [])
 
 -- the cart takes a request for a line before the change that the lane was told of
 abbrev pub asks_line : Event
-asks_line = event (Asked 7 cart_node) 1 10 (past 1 1) (asks_for 2 (ask.Line 7 mug 1 0))
+asks_line = event (Asked caller_lane cart_node) 1 10 (past 1 1) (asks_for 2 (ask.Line 7 mug 1 0))
 
 abbrev pub told_unknown : Event
-told_unknown = event (Told cart_node 7) 1 12 (past 1 1) (body.Told (id 2) (reply.Refused rule.Unknown))
+told_unknown =
+    event (Told cart_node caller_lane) 1 12 (past 1 1) (body.Told (id 2) (reply.Refused rule.Unknown))
 
 abbrev pub taken_early : Histories
 taken_early =
     of_three product_node (taken 3 asked ∷ made to_stock ∷ made to_cart ∷ made to_lane ∷ [])
-    15 (given 1 (request 1 create) ∷ made asked ∷ taken 7 to_lane ∷ answered 8 (id 1) (reply.Created 1)
-    ∷ given 9 (request 2 (ask.Line 7 mug 1 0)) ∷ made asks_line ∷ [])
+    caller_node (given 1 (request 1 create) ∷ made asked ∷ taken 7 to_lane
+    ∷ answered 8 (id 1) (reply.Created 1) ∷ given 9 (request 2 (ask.Line 7 mug 1 0)) ∷ made asks_line ∷ [])
     cart_node (taken 11 asks_line ∷ made told_unknown ∷ [])
 
 -- pasts_are_causal_order: pasts that forget, and an event that is taken before its cause
@@ -169,7 +174,7 @@ pub record CausalCounterexamples : Type 0 where
   pub forgetful_first : IsMadeOn forgetful PRODUCT_TO_STOCK to_stock
   pub forgetful_then : IsMadeOn forgetful PRODUCT_TO_CART forgetting
   pub forgetful_before : IsBefore (journal_at forgetful) to_stock forgetting
-  pub forgetful_counted : (to_stock.number ≤ slice_index forgetting.past 1) → ⊥
+  pub forgetful_counted : (to_stock.number ≤ slice_index forgetting.past (index_of PRODUCT_TO_STOCK)) → ⊥
   -- it is before the other, and not taken before it
   pub early_unlawful : IsLawful taken_early → ⊥
   pub early_before : IsBefore (journal_at taken_early) to_cart asks_line
@@ -185,7 +190,7 @@ held_from_nothing = of_two stock_node (made held ∷ []) order_node (taken 2 hel
 
 -- stock keeps a reservation although it took a failure: of another customer, which does not fit
 abbrev pub stocks : Event
-stocks = event (Asked 7 stock_node) 1 8 (past 0 1) (asks_for 2 (ask.Stock mug 3))
+stocks = event (Asked caller_lane stock_node) 1 8 (past 0 1) (asks_for 2 (ask.Stock mug 3))
 
 abbrev pub reserves : Event
 reserves = event CART_TO_STOCK 1 12 (past 0 1) (reserve_for 7)

@@ -27,7 +27,7 @@ use Rattle.market_events.specs.Shipments.{items_made}
 use Rattle.market_events.specs.Steps.{Step, taken_bodies, made_on, told}
 use Rattle.market_events.specs.Stocks.{confirms, fails, on_hand, reserved, settles, sold, stocked}
 use Rattle.market_events.specs.WellFormed.{total_of}
-use Rattle.market_history.specs.Examples.{mug, id, create, created}
+use Rattle.market_history.specs.Examples.{mug, id, create, created, caller_lane}
 use Rattle.market_laws.specs.CounterexampleValues.{mugs, asks_for, checkout_for, reserve_for, held_for}
 use Rattle.market_laws.specs.CounterexampleValues.{invoice_for, paid_with, shipped, parcel, delivered, step}
 use Rattle.market_laws.specs.Runs.{Member, IsPaidFor, bodies_made, tells, holds_pieces, is_payment}
@@ -35,16 +35,16 @@ use Rattle.market_laws.specs.Runs.{is_delivery}
 
 -- a request that nothing was made of, once and twice
 abbrev pub untold : List Step
-untold = step (Asked 7 product_node) (asks_for 1 create) [] ∷ []
+untold = step (Asked caller_lane product_node) (asks_for 1 create) [] ∷ []
 
 abbrev pub asked_twice : List Step
-asked_twice = step (Asked 7 product_node) (asks_for 1 create) []
-    ∷ step (Asked 7 product_node) (asks_for 1 create) [] ∷ []
+asked_twice = step (Asked caller_lane product_node) (asks_for 1 create) []
+    ∷ step (Asked caller_lane product_node) (asks_for 1 create) [] ∷ []
 
 -- a request with two replies
 abbrev pub told_twice : List Step
 told_twice =
-    step (Asked 7 product_node) (asks_for 1 create)
+    step (Asked caller_lane product_node) (asks_for 1 create)
     (told product_node (id 1) (reply.Created 1) ∷ told product_node (id 1) (reply.Created 1) ∷ []) ∷ []
 
 -- runs_tell_once
@@ -60,7 +60,7 @@ pub record TellingCounterexamples : Type 0 where
 
 -- a request to the cart that nothing was made of
 abbrev pub cart_silent : List Step
-cart_silent = step (Asked 7 cart_node) (asks_for 1 (ask.View mug)) [] ∷ []
+cart_silent = step (Asked caller_lane cart_node) (asks_for 1 (ask.View mug)) [] ∷ []
 
 -- an end of a checkout that was not sent on
 abbrev pub ended_unsent : List Step
@@ -69,12 +69,13 @@ ended_unsent = step ORDER_TO_CART (body.Ended (id 5) (ending.Whole 1950)) [] ∷
 -- a checkout that was sent on twice, and one that was sent on for another customer
 abbrev pub sent_twice : List Step
 sent_twice =
-    step (Asked 7 cart_node) (checkout_for 7) ((CART_TO_STOCK, reserve_for 7)
+    step (Asked caller_lane cart_node) (checkout_for 7) ((CART_TO_STOCK, reserve_for 7)
     ∷ (CART_TO_STOCK, reserve_for 7) ∷ [])
     ∷ []
 
 abbrev pub sent_for_another : List Step
-sent_for_another = step (Asked 7 cart_node) (checkout_for 7) ((CART_TO_STOCK, reserve_for 8) ∷ []) ∷ []
+sent_for_another =
+    step (Asked caller_lane cart_node) (checkout_for 7) ((CART_TO_STOCK, reserve_for 8) ∷ []) ∷ []
 
 -- cart_runs
 pub record CartCounterexamples : Type 0 where
@@ -95,14 +96,15 @@ pub record CartCounterexamples : Type 0 where
 
 -- a change that stock alone was told, and one that leaves out versions
 abbrev pub told_stock_alone : List Step
-told_stock_alone = step (Asked 7 product_node) (asks_for 1 create) ((PRODUCT_TO_STOCK, created) ∷ []) ∷ []
+told_stock_alone =
+    step (Asked caller_lane product_node) (asks_for 1 create) ((PRODUCT_TO_STOCK, created) ∷ []) ∷ []
 
 abbrev pub late_change : Body
 late_change = body.Changed mug 5 (Created 1000 50)
 
 abbrev pub versions_left_out : List Step
 versions_left_out =
-    step (Asked 7 product_node) (asks_for 1 create) ((PRODUCT_TO_STOCK, late_change)
+    step (Asked caller_lane product_node) (asks_for 1 create) ((PRODUCT_TO_STOCK, late_change)
     ∷ (PRODUCT_TO_CART, late_change)
     ∷ []) ∷ []
 
@@ -287,12 +289,12 @@ paid_twice = step PAYMENT_TO_SHIPMENT (paid_with 1950) [] ∷ step PAYMENT_TO_SH
 
 -- a delivery of what was neither paid nor shipped, told to orders alone; and one of an item twice
 abbrev pub delivered_unshipped : List Step
-delivered_unshipped = step (Asked 7 shipment_node) (asks_for 9 ask.Deliver)
+delivered_unshipped = step (Asked caller_lane shipment_node) (asks_for 9 ask.Deliver)
     ((SHIPMENT_TO_ORDER, delivered) ∷ []) ∷ []
 
 abbrev pub delivered_twice : List Step
 delivered_twice =
-    step (Asked 7 shipment_node) (asks_for 9 ask.Deliver) ((SHIPMENT_TO_CUSTOMER, delivered)
+    step (Asked caller_lane shipment_node) (asks_for 9 ask.Deliver) ((SHIPMENT_TO_CUSTOMER, delivered)
     ∷ (SHIPMENT_TO_CUSTOMER, delivered) ∷ []) ∷ []
 
 -- shipment_runs

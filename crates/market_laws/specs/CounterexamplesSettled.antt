@@ -3,10 +3,11 @@ use Rattle.std.specs.Prelude.{◌≡◌, true, false, is_some, [], ◌∷◌}
 use Rattle.market_events.specs.declared.links.Link.TheVariants.{Asked}
 use Rattle.market_events.specs.declared.replies.Reply.TheVariants as reply
 use Rattle.market_events.specs.declared.requests.Ask.TheVariants as ask
-use Rattle.market_events.specs.Links.{lane_node, product_node}
+use Rattle.market_events.specs.Links.{product_node}
 use Rattle.market_history.specs.Book.{IsBook}
 use Rattle.market_history.specs.Checkouts.{is_kept_checkout, IsDecided}
-use Rattle.market_history.specs.Examples.{id, request, give, offer, given, answered, create}
+use Rattle.market_history.specs.Examples.{id, request, give, offer, given, answered, create, caller_lane}
+use Rattle.market_history.specs.Examples.{caller_node}
 use Rattle.market_history.specs.Histories.{Histories, journal_at, no_histories}
 use Rattle.market_history.specs.Lawful.{IsLawful}
 use Rattle.market_history.specs.Once.{is_waiting, kept_by, reply_at}
@@ -20,30 +21,31 @@ abbrev pub waiting : Histories
 waiting = play no_histories (give 1 create ∷ [])
 
 abbrev pub forgotten : Histories
-forgotten = of_one 15 (given 1 (request 1 create) ∷ [])
+forgotten = of_one caller_node (given 1 (request 1 create) ∷ [])
 
 -- a checkout that is on its way, and one that is answered to be whole with no order
 abbrev pub undecided : Histories
 undecided = play no_histories (give 5 (ask.Checkout 7) ∷ [])
 
 abbrev pub whole_unordered : Histories
-whole_unordered = of_one 15 (given 1 (request 5 (ask.Checkout 7)) ∷ answered 2 (id 5) (reply.Whole 1950) ∷ [])
+whole_unordered =
+    of_one caller_node (given 1 (request 5 (ask.Checkout 7)) ∷ answered 2 (id 5) (reply.Whole 1950) ∷ [])
 
 -- a change that neither the cart nor stock took yet
 abbrev pub untold : Histories
-untold = play no_histories (give 1 create ∷ offer (Asked 7 product_node) 1 ∷ [])
+untold = play no_histories (give 1 create ∷ offer (Asked caller_lane product_node) 1 ∷ [])
 
 pub record SettledCounterexamples : Type 0 where
   -- settled_lanes_answer
   pub waiting_lawful : IsLawful waiting
   pub waiting_unsettled : IsSettled waiting → ⊥
-  pub waiting_kept : Member (request 1 create) (kept_by waiting 7)
-  pub waiting_idle : (is_waiting (journal_at waiting (lane_node 7)) ≡ false) → ⊥
+  pub waiting_kept : Member (request 1 create) (kept_by waiting caller_lane)
+  pub waiting_idle : (is_waiting (journal_at waiting (caller_node)) ≡ false) → ⊥
   pub waiting_answered : (is_some (reply_at waiting (id 1)) ≡ true) → ⊥
   pub forgotten_unlawful : IsLawful forgotten → ⊥
   pub forgotten_settled : IsSettled forgotten
-  pub forgotten_kept : Member (request 1 create) (kept_by forgotten 7)
-  pub forgotten_idle : (is_waiting (journal_at forgotten (lane_node 7)) ≡ false) → ⊥
+  pub forgotten_kept : Member (request 1 create) (kept_by forgotten caller_lane)
+  pub forgotten_idle : (is_waiting (journal_at forgotten (caller_node)) ≡ false) → ⊥
   pub forgotten_answered : (is_some (reply_at forgotten (id 1)) ≡ true) → ⊥
   -- settled_checkouts_are_decided
   pub undecided_lawful : IsLawful undecided

@@ -6,7 +6,9 @@ ghost use Rattle.market_events.specs.declared.links.TheConstants.{CART_TO_STOCK}
 use crate::receiver::Receiver;
 use crate::sender::Sender;
 use market_amounts::{ProductKey, RequestId};
-use market_events::{Ask, Body, CART_TO_STOCK, Counts, Event, Node, Offer, Request};
+use market_events::{
+    Ask, Body, CART_TO_STOCK, Counts, Event, Offer, PRODUCT_TO_STOCK, Request, Role, link_index,
+};
 use std::process::Abort;
 use std::test::Fail;
 
@@ -16,7 +18,7 @@ fn event(number: u32, needed: u32, request: &Request) -> Event
     ensures number { result.number ≡ number }
 {
     let mut past = Counts::zero();
-    past.raise(1, needed);
+    past.raise(link_index(PRODUCT_TO_STOCK) as u8, needed);
     Event {
         link: CART_TO_STOCK,
         number,
@@ -42,11 +44,11 @@ fn view() -> Request {
 
 #[test]
 fn offers_of_a_receiver(rt: HostRuntime) -> Result<(), Fail> {
-    let stock = Node::try_new(2).ok_or("node")?;
+    let stock = Role::Stock.node();
     let request = view();
     let none = Counts::zero();
     let mut one = Counts::zero();
-    one.raise(1, 1);
+    one.raise(link_index(PRODUCT_TO_STOCK) as u8, 1);
     let mut receiver = Receiver::new();
     assert_eq!(rt;
         receiver.offer(&event(0, 0, &request), stock, &one),

@@ -16,6 +16,7 @@ use Rattle.market_events.specs.Links.{IsLink, receiver_of, service_ends}
 use Rattle.market_events.specs.Requests.{same_id}
 use Rattle.market_history.specs.declared.schedule.Give.TheVariants as give
 use Rattle.market_events.specs.declared.events.What.{What}
+use Rattle.market_events.specs.declared.roles.TheConstants.{SERVICES}
 use Rattle.market_history.specs.Blocks.{Out, with_what, with_out}
 use Rattle.market_history.specs.Journals.{AsksOwn}
 use Rattle.market_history.specs.Once.{give_of}
@@ -75,27 +76,27 @@ told_body service lane (body.Delivered items) can = let no : ⊥ = cc in absurd 
 told_body service lane (body.Asked request) can = let no : ⊥ = cc in absurd no
 
 -- a service link leads into a service
-ends_below : (ends : List (ℕ × ℕ)) → AllByRecursion (λ (p : ℕ × ℕ). p.1 < 8) ends → (n : ℕ) → (slice_index_or ends n (0, 0)).1 < 8
+ends_below : (ends : List (ℕ × ℕ)) → AllByRecursion (λ (p : ℕ × ℕ). p.1 < SERVICES) ends → (n : ℕ) → (slice_index_or ends n (0, 0)).1 < SERVICES
 ends_below [] all n = lit< tt
 ends_below (p ∷ ps) all zero = all.0
 ends_below (p ∷ ps) all (suc n) = ends_below ps all.1 n
 
-service_below : (n : ℕ) → receiver_of (link.Service n) < 8
+service_below : (n : ℕ) → receiver_of (link.Service n) < SERVICES
 service_below n = ends_below service_ends (lit< tt, (lit< tt, (lit< tt, (lit< tt, (lit< tt, (lit< tt, (lit< tt, (lit< tt, (lit< tt, (lit< tt, (lit< tt, (lit< tt, (lit< tt, (lit< tt, (lit< tt, (lit< tt, tt)))))))))))))))) n
 
-pub tells : (l : Link) (b : Body) → IsLink l → 8 ≤ receiver_of l → carries l b ≡ true → Tells b
+pub tells : (l : Link) (b : Body) → IsLink l → SERVICES ≤ receiver_of l → carries l b ≡ true → Tells b
 tells (link.Told service lane) b is into can = told_body service lane b can
 tells (link.Asked lane service) b is into can = absurd (omega arith)
 tells (link.Service n) b is into can = let below = service_below n in absurd (omega arith)
 
 -- and asks nothing
-pub own-into : (l : Link) (b : Body) → IsLink l → 8 ≤ receiver_of l → AsksOwn l b
+pub own-into : (l : Link) (b : Body) → IsLink l → SERVICES ≤ receiver_of l → AsksOwn l b
 own-into (link.Told service lane) b is into = tt
 own-into (link.Asked lane service) b is into = absurd (omega arith)
 own-into (link.Service n) b is into = tt
 
 -- an event of a link into a lane tells it a reply
-pub is_told-into : (l : Link) (b : Body) → IsLink l → 8 ≤ receiver_of l → carries l b ≡ true → is_told b ≡ true
+pub is_told-into : (l : Link) (b : Body) → IsLink l → SERVICES ≤ receiver_of l → carries l b ≡ true → is_told b ≡ true
 is_told-into l b is into can = let it = tells l b is into can in ap (λ (c : Body). is_told c) it.told
 
 -- a record after room was made, and after what came and what was made of it

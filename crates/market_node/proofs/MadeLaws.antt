@@ -7,6 +7,7 @@ use Rattle.market_events.specs.declared.links.Link.TheVariants as link
 use Rattle.market_events.specs.AnswerShape.{IsAnswer, AreAnswers}
 use Rattle.market_events.specs.Links.{sender_of}
 use Rattle.market_events.specs.declared.roles.Role.{Role}
+use Rattle.market_events.specs.declared.roles.TheConstants.{SERVICES}
 use Rattle.market_events.specs.Services.{answers, fits, reactions, node_of, IsRunOf, most_steps}
 use Rattle.market_events.specs.Steps.{Step, Sending}
 use Rattle.market_events.specs.WellFormed.{IsBody}
@@ -29,7 +30,7 @@ by_role Role.Customer steps from b run few ok = customer_shape steps run few b o
 by_role Role.Seller steps from b run few ok = seller_shape steps run b ok
 
 -- the nodes of services are below those of lanes
-pub node_of-below : (role : Role) → node_of role < 8
+pub node_of-below : (role : Role) → node_of role < SERVICES
 node_of-below Role.Cart = omega arith
 node_of-below Role.Product = omega arith
 node_of-below Role.Stock = omega arith
@@ -40,7 +41,7 @@ node_of-below Role.Customer = omega arith
 node_of-below Role.Seller = omega arith
 
 -- only lanes ask
-own_by_service : (to : Link) (b : Body) (node : ℕ) → sender_of to ≡ node → node < 8 → AsksOwn to b
+own_by_service : (to : Link) (b : Body) (node : ℕ) → sender_of to ≡ node → node < SERVICES → AsksOwn to b
 own_by_service (link.Service n) b node from below = tt
 own_by_service (link.Told service lane) b node from below = tt
 own_by_service (link.Asked lane service) b node from below = absurd (omega arith)

@@ -19,6 +19,7 @@ use Rattle.market_events.specs.Links.{IsLink, lane_node, sender_of, receiver_of,
 use Rattle.market_events.specs.Offers.{taken_on, counts_of, offer_by, offer_of}
 use Rattle.market_events.specs.Requests.{lane_of}
 use Rattle.market_events.specs.WellFormed.{IsBody, IsReply, IsRequest, IsRequestId, IsWellFormedEvent}
+use Rattle.market_events.specs.declared.nodes.TheConstants.{NODES}
 use Rattle.market_history.specs.Blocks.{with_what, next_event}
 use Rattle.market_history.specs.Causality.{events_taken, past_of}
 use Rattle.market_history.specs.Journals.{AsksOwn, CanBeKept, IsEntry, IsLane}
@@ -99,7 +100,7 @@ at_most-push xs ys x n is most =
 
 -- the entries may stand at the end
 
-pub taken_entry : (node : ℕ) (xs : List Entry) (clock : ℕ) (event : Event) → node ≤ 23 → length xs < 4_294_967_295 → clock ≤ 2 ^ 62 → event.clock ≤ 2 ^ 62 → event.number < 2 ^ 32 → AreCounts event.past
+pub taken_entry : (node : ℕ) (xs : List Entry) (clock : ℕ) (event : Event) → node < NODES → length xs < 4_294_967_295 → clock ≤ 2 ^ 62 → event.clock ≤ 2 ^ 62 → event.number < 2 ^ 32 → AreCounts event.past
     → IsLink event.link → carries event.link event.body ≡ true → AsksOwn event.link event.body → IsWellFormedEvent event → receiver_of event.link ≡ node → offer_of node (events_taken xs) event ≡ offer.Take
     → IsEntry node (length xs) (entry_at clock (Taken event))
 taken_entry node xs clock event high few low sent short past is carried own formed into due = record {
@@ -121,7 +122,7 @@ taken_entry node xs clock event high few low sent short past is carried own form
   );
 }
 
-pub made_entry : (node : ℕ) (xs : List Entry) (clock number : ℕ) (link : Link) (past : List ℕ) (b : Body) → node ≤ 23 → length xs < 4_294_967_295 → clock ≤ 2 ^ 62 → number ≡ length (sent link xs) + 1
+pub made_entry : (node : ℕ) (xs : List Entry) (clock number : ℕ) (link : Link) (past : List ℕ) (b : Body) → node < NODES → length xs < 4_294_967_295 → clock ≤ 2 ^ 62 → number ≡ length (sent link xs) + 1
     → AreCounts past → IsLink link → sender_of link ≡ node → carries link b ≡ true → IsBody b → AsksOwn link b
     → IsEntry node (length xs) (entry_at clock (Made (record { link = link; number = number; clock = clock; past = past; body = b })))
 made_entry node xs clock number link past b high few low next counts is from carried formed own = record {
@@ -144,11 +145,11 @@ made_entry node xs clock number link past b high few low next counts is from car
   );
 }
 
-pub given_entry : (node : ℕ) (xs : List Entry) (clock : ℕ) (r : Request) → node ≤ 23 → length xs < 4_294_967_295 → clock ≤ 2 ^ 62 → IsRequest r → lane_node (lane_of r.id) ≡ node → IsEntry node (length xs) (entry_at clock (Given r))
+pub given_entry : (node : ℕ) (xs : List Entry) (clock : ℕ) (r : Request) → node < NODES → length xs < 4_294_967_295 → clock ≤ 2 ^ 62 → IsRequest r → lane_node (lane_of r.id) ≡ node → IsEntry node (length xs) (entry_at clock (Given r))
 given_entry node xs clock r high few low formed own =
     record { formed = record { what = formed }; node_high = high; place_high = few; clock_high = low; what = ((omega arith, high), own) }
 
-pub answered_entry : (node : ℕ) (xs : List Entry) (clock : ℕ) (id : RequestId) (reply : Reply) → node ≤ 23 → length xs < 4_294_967_295 → clock ≤ 2 ^ 62 → IsRequestId id → IsReply reply → CanBeKept reply → IsLane node → IsEntry node (length xs) (entry_at clock (Answered id reply))
+pub answered_entry : (node : ℕ) (xs : List Entry) (clock : ℕ) (id : RequestId) (reply : Reply) → node < NODES → length xs < 4_294_967_295 → clock ≤ 2 ^ 62 → IsRequestId id → IsReply reply → CanBeKept reply → IsLane node → IsEntry node (length xs) (entry_at clock (Answered id reply))
 answered_entry node xs clock id reply high few low formed said kept lane =
     record { formed = record { what = (formed, said) }; node_high = high; place_high = few; clock_high = low; what = (lane, kept) }
 

@@ -1,5 +1,6 @@
 -- What a recorder's fields are seen as, and what they keep.
-use Rattle.std.specs.Prelude.{◌≤◌, length}
+use Rattle.std.specs.Prelude.{◌<◌, ◌≤◌, length}
+use Rattle.market_events.specs.declared.nodes.TheConstants.{NODES}
 use Rattle.market_node.specs.declared.recorder.Recorder.TheInside.{Inside}
 use Rattle.market_node.specs.Notes.{AreNotes, HaveRoom}
 use Rattle.market_node.specs.Records.{RecordState}
@@ -16,7 +17,7 @@ record_of a = record {
 }
 
 pub record IsRecorder (a : Inside) : Type 0 where
-  pub node_high : a.journal.node ≤ 23
+  pub node_high : a.journal.node < NODES
   pub notes : AreNotes a.journal.node a.journal.entries a.clock a.known a.received.services
       a.received.receivers a.lists
   pub committed : a.committed ≤ length a.journal.entries

@@ -4,7 +4,7 @@ use Rattle.std.specs.Prelude.{drop, take, slice_index_or}
 use Rattle.market_events.specs.declared.events.Entry.{Entry}
 use Rattle.market_events.specs.declared.events.Event.{Event}
 use Rattle.market_events.specs.declared.links.Link.{Link}
-use Rattle.market_events.specs.declared.links.Link.TheVariants.{Service}
+use Rattle.market_events.specs.declared.links.TheConstants.{PRODUCT_TO_CART}
 use Rattle.market_events.specs.Links.{IsLink, sender_of}
 use Rattle.market_history.specs.Sent.{sent}
 use Rattle.market_links.specs.SenderStates.{SenderState}
@@ -15,9 +15,9 @@ use Rattle.market_links.specs.declared.slots.TheConstants.{SLOTS}
 abbrev pub new_sender : Link → SenderState
 new_sender link = record { link = link; under_way = []; acknowledged = 0; released = 0; spare = 0 }
 
--- what is at the slot
+-- what is at the slot: past the last one a sender that has no events, of any link
 abbrev pub sender_at : List SenderState → ℕ → SenderState
-sender_at senders slot = slice_index_or senders slot (new_sender (Service 0))
+sender_at senders slot = slice_index_or senders slot (new_sender PRODUCT_TO_CART)
 
 -- how many events were acknowledged, by slot
 abbrev pub acknowledged_of : List SenderState → List ℕ

@@ -8,13 +8,14 @@ ghost use Rattle.market_events.specs.Links.{IsLink, sender_of, receiver_of};
 ghost use Rattle.market_events.specs.Offers.{taken_on};
 ghost use Rattle.market_history.specs.Causality.{events_taken};
 ghost use Rattle.market_links.specs.declared.slots.TheConstants.{SLOTS};
-ghost use Rattle.market_node.specs.Cores.{CoreState, with_entries, window_of, with_count_back, committed_on};
-ghost use Rattle.market_node.specs.Cores.{with_all_committed};
+ghost use Rattle.market_node.specs.Cores.{CoreState, core_of, with_entries, window_of, with_count_back};
+ghost use Rattle.market_node.specs.Cores.{committed_on, with_all_committed};
 ghost use Rattle.market_node.specs.Notes.{event_with};
 ghost use Rattle.market_node.specs.Offered.{with_offered, FitsService, FitsLane};
 
 use crate::lane_core::LaneCore;
 use crate::node_core::NodeCore;
+use crate::recorder::Recorder;
 use market_events::{Entry, Event, Link, Offer, Service};
 use market_history::Journal;
 use std::alloc::AllocError;
@@ -26,15 +27,25 @@ pub trait Core {
 
     ghost can_take: { ℕ → List Entry → Event → Type 0 };
 
+    /// The record of the node, which the calls below read.
+    fn recorder(&self) -> &Recorder
+        ensures { core_of result.now ≡ state self.now };
+
     /// The journal. It takes no memory.
     fn journal(&self) -> &Journal
         ensures node { result.now.node ≡ (state self.now).node }
         ensures entries { result.now.entries ≡ (state self.now).entries }
-        ensures slots { length (state self.now).acknowledged ≡ SLOTS };
+        ensures slots { length (state self.now).acknowledged ≡ SLOTS }
+    {
+        self.recorder().journal()
+    }
 
     /// The entries that are not committed. It takes no memory.
     fn uncommitted(&self) -> &[Entry]
-        ensures { result.now ≡ drop (state self.now).committed (state self.now).entries };
+        ensures { result.now ≡ drop (state self.now).committed (state self.now).entries }
+    {
+        self.recorder().uncommitted()
+    }
 
     /// Counts all entries as committed, and their events as released. It takes no memory.
     fn release(&mut self)
@@ -45,7 +56,10 @@ pub trait Core {
     fn window(&self, link: Link) -> &[Event]
         requires link { IsLink link }
         requires from { sender_of link ≡ (state self.now).node }
-        ensures { result.now ≡ window_of (state self.now) link };
+        ensures { result.now ≡ window_of (state self.now) link }
+    {
+        self.recorder().window(link)
+    }
 
     /// Notes a count of taken events that came back on a link out of the node. Where it is greater than the
     /// acknowledged count, and not above the released events, it is the acknowledged count from then on, and
@@ -59,19 +73,28 @@ pub trait Core {
     fn event(&self, link: Link, number: u32) -> Option<&Event>
         requires link { IsLink link }
         requires from { sender_of link ≡ (state self.now).node }
-        ensures { option_copied result ≡ event_with link number (state self.now).entries };
+        ensures { option_copied result ≡ event_with link number (state self.now).entries }
+    {
+        self.recorder().event(link, number)
+    }
 
     /// How many events were taken on a link into the node. It takes no memory.
     fn taken(&self, link: Link) -> u32
         requires link { IsLink link }
         requires into { receiver_of link ≡ (state self.now).node }
-        ensures { result ≡ taken_on (events_taken (state self.now).entries) link };
+        ensures { result ≡ taken_on (events_taken (state self.now).entries) link }
+    {
+        self.recorder().taken(link)
+    }
 
     /// How many of them are committed. It takes no memory.
     fn settled(&self, link: Link) -> u32
         requires link { IsLink link }
         requires into { receiver_of link ≡ (state self.now).node }
-        ensures { result ≡ committed_on (state self.now) link };
+        ensures { result ≡ committed_on (state self.now) link }
+    {
+        self.recorder().settled(link)
+    }
 
     /// Offers an event to the node. Where it is taken, the journal grows by one block; otherwise, and on want
     /// of memory, nothing changes.
@@ -88,36 +111,16 @@ impl<S: Service> Core for NodeCore<S> {
 
     ghost can_take = { FitsService S.role };
 
-    fn journal(&self) -> &Journal {
-        self.recorder.journal()
-    }
-
-    fn uncommitted(&self) -> &[Entry] {
-        self.recorder.uncommitted()
+    fn recorder(&self) -> &Recorder {
+        &self.recorder
     }
 
     fn release(&mut self) {
         self.recorder.release();
     }
 
-    fn window(&self, link: Link) -> &[Event] {
-        self.recorder.window(link)
-    }
-
     fn ack(&mut self, link: Link, count: u32) {
         self.recorder.ack(link, count);
-    }
-
-    fn event(&self, link: Link, number: u32) -> Option<&Event> {
-        self.recorder.event(link, number)
-    }
-
-    fn taken(&self, link: Link) -> u32 {
-        self.recorder.taken(link)
-    }
-
-    fn settled(&self, link: Link) -> u32 {
-        self.recorder.settled(link)
     }
 
     fn offer(&mut self, event: &Event) -> Result<Offer, AllocError> {
@@ -130,36 +133,16 @@ impl Core for LaneCore {
 
     ghost can_take = { FitsLane };
 
-    fn journal(&self) -> &Journal {
-        self.recorder.journal()
-    }
-
-    fn uncommitted(&self) -> &[Entry] {
-        self.recorder.uncommitted()
+    fn recorder(&self) -> &Recorder {
+        &self.recorder
     }
 
     fn release(&mut self) {
         self.recorder.release();
     }
 
-    fn window(&self, link: Link) -> &[Event] {
-        self.recorder.window(link)
-    }
-
     fn ack(&mut self, link: Link, count: u32) {
         self.recorder.ack(link, count);
-    }
-
-    fn event(&self, link: Link, number: u32) -> Option<&Event> {
-        self.recorder.event(link, number)
-    }
-
-    fn taken(&self, link: Link) -> u32 {
-        self.recorder.taken(link)
-    }
-
-    fn settled(&self, link: Link) -> u32 {
-        self.recorder.settled(link)
     }
 
     fn offer(&mut self, event: &Event) -> Result<Offer, AllocError> {

@@ -3,6 +3,7 @@
 ghost use Rattle.std.specs.Prelude.{◌≡◌, ◌≢◌, ◌+◌, ◌-◌, ◌^◌, ◌<◌, ◌≤◌, length};
 ghost use Rattle.std.specs.Prelude.{is_some, IfOk, OnErr};
 ghost use Rattle.std.specs.Option.{option_copied};
+ghost use Rattle.market_events.specs.declared.lanes.TheConstants.{LANES};
 ghost use Rattle.market_events.specs.Links.{lane_node};
 ghost use Rattle.market_events.specs.Offers.{offer_of};
 ghost use Rattle.market_events.specs.Requests.{lane_of};
@@ -53,9 +54,9 @@ impl Model for LaneCore {
 }
 
 impl LaneCore {
-    /// The core of this lane, 0 to 15, with an empty journal.
+    /// The core of this lane, below `LANES`, with an empty journal.
     pub fn new(alloc: Global, lane: u8) -> Result<LaneCore, AllocError>
-        requires { lane < 16 }
+        requires { lane < LANES }
         ensures { IfOk result (λ core. core ≡ new_core (lane_node lane)) }
     {
         let recorder = Recorder::new(alloc, lane_node(lane))?;

@@ -42,7 +42,7 @@ impl<S: Service> Model for NodeCore<S> {
 }
 
 impl<S: Service> NodeCore<S> {
-    /// The core of this node, 0 to 7, with an empty journal. It requires the node's service, which took
+    /// The core of this service's node, with an empty journal. It requires the node's service, which took
     /// nothing yet.
     pub fn new(alloc: Global, node: Node, service: S) -> Result<NodeCore<S>, AllocError>
     where

@@ -10,7 +10,7 @@ ghost use Rattle.market_links.specs.Slots.{slot_from};
 ghost use Rattle.market_links.specs.declared.slots.TheConstants.{SLOTS};
 ghost use Rattle.market_node.specs.Sending.{acknowledged_of, sender_at, new_sender, AreRoomier};
 
-use market_events::{Event, Link, Node};
+use market_events::{Event, Node, PRODUCT_TO_CART};
 use market_links::{SLOTS, Sender, link_from};
 use std::alloc::{AllocError, Global};
 use std::marker::Model;
@@ -43,8 +43,8 @@ impl Senders {
     {
         let mut senders = Vec::new(alloc);
         for slot in 0..SLOTS {
-            // At a slot of no link the sender stays empty.
-            let link = link_from(node, slot).unwrap_or(Link::Service(0));
+            // At a slot of no link the sender stays empty, so any link does there.
+            let link = link_from(node, slot).unwrap_or(PRODUCT_TO_CART);
             senders.push(Sender::new(alloc, link))?;
         }
         Ok(Senders { senders })

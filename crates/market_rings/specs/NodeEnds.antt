@@ -1,5 +1,5 @@
 -- The ends of rings at a node.
-use Rattle.std.specs.Prelude.{◌≡◌, ℕ, ◌≤◌, List, [], ◌∷◌, Option, Some, None, replicate, slice_index_or}
+use Rattle.std.specs.Prelude.{◌≡◌, ℕ, ◌≤◌, List, [], Option, Some, None, replicate, slice_index_or}
 use Rattle.std.specs.Prelude.{slice_set}
 use Rattle.market_events.specs.declared.links.Link.{Link}
 use Rattle.market_events.specs.declared.events.Event.{Event}

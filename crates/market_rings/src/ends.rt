@@ -42,8 +42,8 @@ impl Model for Ends {
 }
 
 impl Ends {
-    // No ends at any slot.
-    pub(crate) fn none(alloc: Global) -> Result<Ends, AllocError>
+    /// No ends at any slot.
+    pub fn none(alloc: Global) -> Result<Ends, AllocError>
         ensures { IfOk result (λ ends. ends ≡ no_ends) }
     {
         let mut outs = Vec::new(alloc);

@@ -9,8 +9,6 @@ mod link_ends;
 mod outlets;
 mod packets;
 mod rings;
-#[cfg(test)]
-mod tests;
 mod wiring;
 
 pub use ends::{Ends, meet};

@@ -2,10 +2,10 @@
 use Rattle.std.proofs.Common.{◌≡◌, ℕ, ◌<◌, ◌≤◌, Bool, true, false, ltb, List, [], ◌∷◌, length, refl, ap, sym, ◌∙◌, arith}
 use Rattle.std.specs.List.{slice_set, slice_index}
 use Rattle.std.proofs.lemmas.Bool.Decides.{nat_tests}
-use Rattle.std.proofs.lemmas.List.{set-set, set_past, set-get_or, get_or-set_same, get_or-set_other, length-set}
+use Rattle.std.proofs.lemmas.List.{set-set, set_past, set-get_or, get_or-set_same}
 use Rattle.market_events.specs.declared.links.Link.{Link}
 use Rattle.market_links.specs.Slots.{slot_from}
-use Rattle.market_node.specs.Cores.{CoreState, with_count_back, acknowledged_on}
+use Rattle.market_node.specs.Cores.{CoreState, with_count_back}
 use Rattle.market_node.specs.Sending.{with_count}
 use Rattle.market_turns.specs.Turns.{with_counts, with_counts_back}
 

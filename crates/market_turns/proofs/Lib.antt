@@ -5,3 +5,4 @@ pub mod Offers
 pub mod Slots
 pub mod Turning
 pub mod Windows
+pub mod LaneTurns

@@ -1,12 +1,11 @@
 -- The counts that came back on the links out of a node, slot by slot.
-use Rattle.std.proofs.Common.{◌≡◌, ◌≢◌, ℕ, ◌+◌, ◌<◌, ◌≤◌, Bool, true, false, ◌==◌, List, [], ◌∷◌, Option, Some, None, length, refl, ap, subst, sym, ◌∙◌, arith}
+use Rattle.std.proofs.Common.{◌≡◌, ◌≢◌, ℕ, ◌+◌, ◌<◌, ◌≤◌, Bool, true, false, ◌==◌, List, length, refl, ap, subst, sym, ◌∙◌, arith}
 use Rattle.std.specs.List.{slice_set, slice_index}
 use Rattle.std.proofs.lemmas.Bool.Decides.{nat_tests}
 use Rattle.std.proofs.lemmas.List.{get_or-set_same, get_or-set_other, length-set}
 use Rattle.market_events.specs.declared.links.Link.{Link}
 use Rattle.market_events.specs.Links.{IsLink, sender_of}
 use Rattle.market_links.specs.Slots.{slot_from}
-use Rattle.market_links.specs.declared.slots.TheConstants.{SLOTS}
 use Rattle.market_node.specs.Cores.{CoreState, acknowledged_on}
 use Rattle.market_rings.specs.NodeEnds.{NodeEnds, out_at, counts_waiting}
 use Rattle.market_turns.specs.Turns.{with_counts, with_counts_back}
@@ -18,9 +17,6 @@ pub record AreNotedBelow (start : CoreState) (ends : NodeEnds) (now : CoreState)
   pub noted : (link : Link) → IsLink link → sender_of link ≡ start.node → slot_from link < first
       → acknowledged_on now link ≡ with_counts link start.entries start.committed (acknowledged_on start link) (counts_waiting (out_at ends (slot_from link)))
   pub rest : (slot : ℕ) → first ≤ slot → slice_index now.acknowledged slot ≡ slice_index start.acknowledged slot
-
-pub noted_first : (start : CoreState) (ends : NodeEnds) → AreNotedBelow start ends start 0
-noted_first start ends = record { many = refl; same = refl; noted = λ link is from none. absurd (omega arith); rest = λ slot from. refl }
 
 -- no link has the slot
 pub noted_none : (start : CoreState) (ends : NodeEnds) (now : CoreState) (first : ℕ) → AreNotedBelow start ends now first

@@ -1,7 +1,5 @@
 -- Events that are offered to a core one after the other.
-use Rattle.std.proofs.Common.{◌≡◌, ℕ, ◌+◌, ◌<◌, ◌≤◌, List, [], ◌∷◌, ◌++◌, length, drop, refl, ap, subst, sym, ◌∙◌, arith}
-use Rattle.std.specs.Prelude.{fold}
-use Rattle.std.proofs.lemmas.List.Sums.{fold-append}
+use Rattle.std.proofs.Common.{◌≡◌, ℕ, ◌+◌, List, [], ◌∷◌, ◌++◌, refl, ap, subst, sym, ◌∙◌}
 use Rattle.market_events.specs.declared.events.Entry.{Entry}
 use Rattle.market_events.specs.declared.events.Event.{Event}
 use Rattle.market_node.specs.Cores.{CoreState, with_entries}
@@ -13,9 +11,6 @@ module _ (can : ℕ → List Entry → Event → Type 0) where
     pub same : now ≡ with_entries start now.entries
     pub can_all : CanTakeAll can start.node now.entries left
     pub ends : with_all_offered start.node now.entries left ≡ with_all_offered start.node start.entries all
-
-  pub offered_first : (start : CoreState) (all : List Event) → CanTakeAll can start.node start.entries all → AreOffered start all start all
-  offered_first start all can_all = record { same = refl; can_all = can_all; ends = refl }
 
   -- the next one may be offered
   pub offered_head : (start : CoreState) (all : List Event) (now : CoreState) (left rest : List Event) (event : Event) → AreOffered start all now left → left ≡ event ∷ rest → can now.node now.entries event

@@ -1,8 +1,8 @@
 -- What stands at the slots of a node: some of it changed, and the rest as it was.
-use Rattle.std.proofs.Common.{◌≡◌, ◌≢◌, ℕ, suc, ◌+◌, ◌-◌, ◌<◌, ◌≤◌, Bool, true, false, ltb, List, [], ◌∷◌, ◌++◌, Option, Some, None, length, map, take, drop, refl, ap, subst, sym, ◌∙◌, arith, length-append}
+use Rattle.std.proofs.Common.{◌≡◌, ℕ, suc, ◌+◌, ◌-◌, ◌<◌, ◌≤◌, Bool, true, false, ltb, List, ◌∷◌, ◌++◌, Option, Some, None, length, map, take, drop, refl, ap, ◌∙◌, arith, length-append}
 use Rattle.std.specs.List.{slice_set, slice_index_or}
 use Rattle.std.proofs.lemmas.Bool.Decides.{nat_tests}
-use Rattle.std.proofs.lemmas.List.{length-map, length-take, length-drop, get_or-append_right, get_or_default, get_or-drop, set_past, get_or-set_same, get_or-set_other, take_all, drop_all, append-nil}
+use Rattle.std.proofs.lemmas.List.{length-map, length-take, length-drop, get_or-append_right, get_or_default, get_or-drop}
 use Rattle.std.proofs.lemmas.List.Edits.{map_over_more}
 use Rattle.std.proofs.Math.ListN.{get_or-eq_default}
 use Rattle.std.proofs.Math.Seq.{drop-cons}
@@ -47,8 +47,3 @@ module _ {X : Type 0} (f : X → X) (d : X) where
       wide =
           let long : length ys ≡ length (map f (take slot xs)) + length (drop slot xs) = ap (λ (zs : List X). length zs) is ∙ length-append (map f (take slot xs)) (drop slot xs) in
           omega (arith, length-map (take slot xs) f, length-take slot xs, length-drop slot xs)
-
-  -- all are changed
-  pub changed_all : (xs : List X) (slot : ℕ) → length xs ≤ slot → changed_below xs slot ≡ map f xs
-  changed_all xs slot past =
-      ap (λ ys. map f ys ++ drop slot xs) (take_all slot xs past) ∙ ap (λ ys. map f xs ++ ys) (drop_all slot xs past) ∙ append-nil (map f xs)

@@ -1,14 +1,13 @@
 -- What a turn does, put together of its parts.
-use Rattle.std.proofs.Common.{◌≡◌, ℕ, List, [], ◌∷◌, ◌++◌, Option, Some, None, map, refl, ap, sym, ◌∙◌}
+use Rattle.std.proofs.Common.{◌≡◌, ℕ, List, [], ◌∷◌, ◌++◌, Option, Some, None, is_some, length, map, refl, ap, sym, ◌∙◌}
 use Rattle.std.specs.List.{flat_map, slice_index_or}
 use Rattle.std.proofs.Math.ListN.{get_or-map}
 use Rattle.market_events.specs.declared.events.Event.{Event}
 use Rattle.market_events.specs.declared.links.Link.{Link}
 use Rattle.market_events.specs.Links.{IsLink, sender_of, receiver_of}
 use Rattle.market_links.specs.Slots.{slot_into, slot_from}
-use Rattle.market_node.specs.Cores.{CoreState, with_entries, acknowledged_on, window_of}
+use Rattle.market_node.specs.Cores.{CoreState, with_entries, acknowledged_on}
 use Rattle.market_node.specs.Offered.{with_all_offered}
-use Rattle.market_rings.specs.declared.link_ends.LinkOut.{LinkOut}
 use Rattle.market_rings.specs.declared.link_ends.LinkIn.{LinkIn}
 use Rattle.market_rings.specs.Fates.{FatesLeft}
 use Rattle.market_rings.specs.NodeEnds.{NodeEnds, out_at, in_at, events_waiting, counts_waiting, events_taken, counts_taken}
@@ -30,13 +29,30 @@ of_each (Some into ∷ ins) = ap (λ (es : List Event). into.events.waiting ++ e
 pub arrivals_same : (a b : NodeEnds) → map events_in a.ins ≡ map events_in b.ins → arrivals a ≡ arrivals b
 arrivals_same a b same = of_each a.ins ∙ ap (flat_map waiting_of) same ∙ sym (of_each b.ins)
 
+-- ends are there where those are of which the same comes in
+there_in : (o : Option LinkIn) → is_some (events_in o) ≡ is_some o
+there_in None = refl
+there_in (Some into) = refl
+
+there_taken : (o : Option LinkIn) → is_some (events_taken o) ≡ is_some o
+there_taken None = refl
+there_taken (Some into) = refl
+
+there_same : (a b : List (Option LinkIn)) (slot : ℕ) → map events_in a ≡ map events_in b → is_some (slice_index_or a slot None) ≡ is_some (slice_index_or b slot None)
+there_same a b slot same =
+    sym (there_in (slice_index_or a slot None))
+    ∙ ap (λ (o : Option (Popping Event)). is_some o) (sym (get_or-map events_in a slot None))
+    ∙ ap (λ (os : List (Option (Popping Event))). is_some (slice_index_or os slot None)) same
+    ∙ ap (λ (o : Option (Popping Event)). is_some o) (get_or-map events_in b slot None)
+    ∙ there_in (slice_index_or b slot None)
+
 module _ (old : NodeState) (first second third fourth : NodeEnds) (fates middle left : FatesLeft) (noted taken : CoreState)
     (windows : (link : Link) → IsLink link → sender_of link ≡ old.core.node → HasSentWindow old.core old.ends first fates middle link)
     (same_ins : first.ins ≡ old.ends.ins) (same_ack : middle.ack ≡ fates.ack)
     (back : (link : Link) → IsLink link → receiver_of link ≡ old.core.node → HasSentBack old.core first second middle left link)
     (same_outs : second.outs ≡ first.outs) (same_carry : left.carry ≡ middle.carry) (waiting : map events_in second.ins ≡ map events_in first.ins)
     (popped : third ≡ record second { outs = map counts_taken second.outs })
-    (same : noted ≡ record old.core { acknowledged = noted.acknowledged })
+    (same : noted ≡ record old.core { acknowledged = noted.acknowledged }) (slots : length noted.acknowledged ≡ length old.core.acknowledged)
     (counts : (link : Link) → IsLink link → sender_of link ≡ old.core.node
     → acknowledged_on noted link ≡ with_counts link old.core.entries old.core.committed (acknowledged_on old.core link) (counts_waiting (out_at second (slot_from link))))
   where
@@ -84,6 +100,14 @@ module _ (old : NodeState) (first second third fourth : NodeEnds) (fates middle 
           sent : HasSentBack old.core first second middle left link
           sent = back link is into
 
+      still_there : (slot : ℕ) → is_some (in_at fourth slot) ≡ is_some (in_at old.ends slot)
+      still_there slot =
+          ap (λ (ends : NodeEnds). is_some (in_at ends slot)) (emptied ∙ ap (λ (ends : NodeEnds). record ends { ins = map events_taken ends.ins }) popped)
+          ∙ ap (λ (o : Option LinkIn). is_some o) (get_or-map events_taken second.ins slot None)
+          ∙ there_taken (in_at second slot)
+          ∙ there_same second.ins first.ins slot waiting
+          ∙ ap (λ (ins : List (Option LinkIn)). is_some (slice_index_or ins slot None)) same_ins
+
       pub has_turned : HasTurned old (record { core = taken; ends = fourth }) fates left
       has_turned = record {
         node = ap (λ (s : CoreState). s.node) offered ∙ ap (λ (s : CoreState). s.node) same;
@@ -91,6 +115,8 @@ module _ (old : NodeState) (first second third fourth : NodeEnds) (fates middle 
         entries = ap (λ (s : CoreState). s.entries) offered
             ∙ ap (λ (s : CoreState). with_all_offered s.node s.entries (arrivals third)) same
             ∙ ap (with_all_offered old.core.node old.core.entries) still_waiting;
+        slots = ap (λ (s : CoreState). length s.acknowledged) offered ∙ slots;
         outs = by_out;
         ins = by_in;
+        only = λ slot into there. sym (still_there slot) ∙ ap (λ (o : Option LinkIn). is_some o) there;
       }

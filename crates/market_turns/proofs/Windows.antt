@@ -40,18 +40,6 @@ module _ {X : Type 0} (is_of : Link → Type 0) (slot_of : Link → ℕ) (send :
     pub rest : (slot : ℕ) → first ≤ slot → slice_index_or now slot None ≡ slice_index_or start slot None
     pub unused : (slot : ℕ) → first ≤ slot → slice_index_or left slot [] ≡ slice_index_or fates slot []
 
-  pub sent_first : (start : List (Option X)) (fates : List (List Fate)) → AreSentBelow start fates start fates 0
-  sent_first start fates = record { sent = λ link is none. absurd (omega arith); rest = λ slot from. refl; unused = λ slot from. refl }
-
-  -- no link has the slot
-  pub sent_none : (start : List (Option X)) (fates : List (List Fate)) (now : List (Option X)) (left : List (List Fate)) (first : ℕ) → AreSentBelow start fates now left first
-      → ((link : Link) → is_of link → slot_of link ≢ first) → AreSentBelow start fates now left (first + 1)
-  sent_none start fates now left first are none = record {
-    sent = λ link is below. let other = none link is in are.sent link is (omega (arith, other, below));
-    rest = λ slot above. are.rest slot (omega arith);
-    unused = λ slot above. are.unused slot (omega arith);
-  }
-
   -- the link with the slot has sent
   pub sent_link : (start : List (Option X)) (fates : List (List Fate)) (now next : List (Option X)) (left unused : List (List Fate)) (first : ℕ) (link : Link) (end : X) → AreSentBelow start fates now left first
       → is_of link → slot_of link ≡ first → ((other : Link) → is_of other → slot_of other ≡ first → link ≡ other)

@@ -1,6 +1,6 @@
 -- What a turn of a node does.
-use Rattle.std.specs.Prelude.{◌≡◌, ℕ, ◌≤◌, nat_lt, if◌then◌else◌, List, [], ◌∷◌, Option, Some, fold, length}
-use Rattle.std.specs.Prelude.{slice_set}
+use Rattle.std.specs.Prelude.{◌≡◌, ℕ, ◌≤◌, nat_lt, if◌then◌else◌, List, [], ◌∷◌, Some, fold, length}
+use Rattle.std.specs.Prelude.{slice_set, is_some, true}
 use Rattle.std.specs.List.{flat_map}
 use Rattle.market_events.specs.declared.events.Entry.{Entry}
 use Rattle.market_events.specs.declared.events.Event.{Event}
@@ -12,7 +12,6 @@ use Rattle.market_links.specs.Slots.{slot_into, slot_from}
 use Rattle.market_node.specs.Cores.{CoreState, acknowledged_on, window_of, committed_on, with_all_committed}
 use Rattle.market_node.specs.Offered.{with_all_offered, CanTakeAll}
 use Rattle.market_node.specs.Sending.{with_count}
-use Rattle.market_rings.specs.declared.fates.Fate.{Fate}
 use Rattle.market_rings.specs.declared.fates.Way.TheVariants.{Carry, Ack}
 use Rattle.market_rings.specs.declared.link_ends.LinkOut.{LinkOut}
 use Rattle.market_rings.specs.declared.link_ends.LinkIn.{LinkIn}
@@ -106,7 +105,11 @@ pub record HasTurned (old new : NodeState) (fates left : FatesLeft) : Type 0 whe
   pub committed : new.core.committed ≡ old.core.committed
   pub entries : new.core.entries
       ≡ with_all_offered old.core.node old.core.entries (arrivals old.ends)
+  pub slots : length new.core.acknowledged ≡ length old.core.acknowledged
   pub outs : (link : Link) → IsLink link → sender_of link ≡ old.core.node
       → HasTurnedOut old new fates left link
   pub ins : (link : Link) → IsLink link → receiver_of link ≡ old.core.node
       → HasTurnedIn old new fates left link
+  -- no ends have come
+  pub only : (slot : ℕ) (into : LinkIn) → in_at new.ends slot ≡ Some into
+      → is_some (in_at old.ends slot) ≡ true

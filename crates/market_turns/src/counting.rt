@@ -1,6 +1,6 @@
 //! The counts that come back to a node.
 
-ghost use Rattle.std.specs.Prelude.{◌≡◌, map, OnOk};
+ghost use Rattle.std.specs.Prelude.{◌≡◌, length, map, OnOk};
 ghost use Rattle.market_events.specs.declared.links.Link.{Link};
 ghost use Rattle.market_events.specs.Links.{IsLink, sender_of};
 ghost use Rattle.market_links.specs.Slots.{slot_from};
@@ -19,6 +19,8 @@ pub fn note_counts<C: Core>(core: &mut C, ends: &mut Ends, alloc: Global) -> Res
     ensures popped { OnOk result (ends.new ≡ record ends.old { outs = map counts_taken ends.old.outs }) }
     ensures same { OnOk result (C.state core.new
         ≡ record (C.state core.old) { acknowledged = (C.state core.new).acknowledged }) }
+    ensures slots { OnOk result
+        (length (C.state core.new).acknowledged ≡ length (C.state core.old).acknowledged) }
     ensures noted { OnOk result ((link : Link) → IsLink link → sender_of link ≡ (C.state core.old).node
         → acknowledged_on (C.state core.new) link
         ≡ with_counts link (C.state core.old).entries (C.state core.old).committed

@@ -96,8 +96,9 @@ impl LaneNode {
 
     /// The ends of its rings.
     pub fn ends(&mut self) -> &mut Ends
-        ensures* { sem 𝓛 (Lends lane.the_row ends.the_row self.entry result
+        ensures* written { sem 𝓛 (Lends lane.the_row ends.the_row self.entry result
             (λ w. record self.entry.now { node = record self.entry.now.node { ends = w } })) }
+        ensures lent { result.now ≡ self.old.node.ends }
     {
         let node = &mut self.node;
         &mut node.ends

@@ -77,8 +77,9 @@ impl<C: Core> RingNode<C> {
 
     /// The ends of its rings.
     pub fn ends(&mut self) -> &mut Ends
-        ensures* { sem 𝓛 (Lends (ring.the_row C.row ⟦<C as Core>⟧) ends.the_row self.entry result
+        ensures* written { sem 𝓛 (Lends (ring.the_row C.row ⟦<C as Core>⟧) ends.the_row self.entry result
             (λ w. record self.entry.now { ends = w })) }
+        ensures lent { result.now ≡ self.old.ends }
     {
         &mut self.ends
     }

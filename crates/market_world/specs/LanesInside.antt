@@ -1,5 +1,5 @@
 -- What the cores of the lanes are seen as.
-use Rattle.std.specs.Prelude.{◌≡◌, ℕ, List, map}
+use Rattle.std.specs.Prelude.{◌≡◌, List, map}
 use Rattle.std.specs.List.{range_with_len}
 use Rattle.market_events.specs.declared.lanes.TheConstants.{LANES}
 use Rattle.market_world.specs.declared.lanes.Lanes.TheInside.{Inside}

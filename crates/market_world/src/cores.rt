@@ -1,13 +1,14 @@
 //! The cores of all nodes.
 
-ghost use Rattle.std.specs.Prelude.{◌≡◌, ◌<◌, IfOk};
+ghost use Rattle.std.specs.Prelude.{◌≡◌, IfOk};
 ghost use Rattle.std.specs.Option.{option_copied};
 ghost use Rattle.market_events.specs.Links.{IsLink, lane_node, sender_of as sender_by_link};
 ghost use Rattle.market_events.specs.Links.{receiver_of as receiver_by_link};
+ghost use Rattle.market_events.specs.Links.{cart_node, product_node, stock_node, order_node, payment_node};
+ghost use Rattle.market_events.specs.Links.{shipment_node, customer_node, seller_node};
 ghost use Rattle.market_events.specs.Offers.{offer_of, taken_on};
 ghost use Rattle.market_events.specs.Requests.{lane_of};
 ghost use Rattle.market_events.specs.Services.{node_of};
-ghost use Rattle.market_history.specs.Blocks.{services};
 ghost use Rattle.market_history.specs.Causality.{events_taken};
 ghost use Rattle.market_history.specs.Histories.{journal_at, no_histories, with_journal};
 ghost use Rattle.market_history.specs.Schedule.{gave, offered};
@@ -214,16 +215,16 @@ struct FrontCores {
 
 impl FrontCores {
     fn new(alloc: Global) -> Result<FrontCores, AllocError>
-        ensures cart { IfOk result (λ cores. IsEmptyCore 0 cores.cart) }
-        ensures product { IfOk result (λ cores. IsEmptyCore 1 cores.product) }
-        ensures stock { IfOk result (λ cores. IsEmptyCore 2 cores.stock) }
-        ensures order { IfOk result (λ cores. IsEmptyCore 3 cores.order) }
+        ensures cart { IfOk result (λ cores. IsEmptyCore cart_node cores.cart) }
+        ensures product { IfOk result (λ cores. IsEmptyCore product_node cores.product) }
+        ensures stock { IfOk result (λ cores. IsEmptyCore stock_node cores.stock) }
+        ensures order { IfOk result (λ cores. IsEmptyCore order_node cores.order) }
     {
         Ok(FrontCores {
-            cart: NodeCore::new(alloc, node_at(0), Carts::new(alloc))?,
-            product: NodeCore::new(alloc, node_at(1), Products::new(alloc))?,
-            stock: NodeCore::new(alloc, node_at(2), Stocks::new(alloc))?,
-            order: NodeCore::new(alloc, node_at(3), Orders::new(alloc))?,
+            cart: NodeCore::new(alloc, Role::Cart.node(), Carts::new(alloc))?,
+            product: NodeCore::new(alloc, Role::Product.node(), Products::new(alloc))?,
+            stock: NodeCore::new(alloc, Role::Stock.node(), Stocks::new(alloc))?,
+            order: NodeCore::new(alloc, Role::Order.node(), Orders::new(alloc))?,
         })
     }
 }
@@ -238,26 +239,18 @@ struct BackCores {
 
 impl BackCores {
     fn new(alloc: Global) -> Result<BackCores, AllocError>
-        ensures payment { IfOk result (λ cores. IsEmptyCore 4 cores.payment) }
-        ensures shipment { IfOk result (λ cores. IsEmptyCore 5 cores.shipment) }
-        ensures customer { IfOk result (λ cores. IsEmptyCore 6 cores.customer) }
-        ensures seller { IfOk result (λ cores. IsEmptyCore 7 cores.seller) }
+        ensures payment { IfOk result (λ cores. IsEmptyCore payment_node cores.payment) }
+        ensures shipment { IfOk result (λ cores. IsEmptyCore shipment_node cores.shipment) }
+        ensures customer { IfOk result (λ cores. IsEmptyCore customer_node cores.customer) }
+        ensures seller { IfOk result (λ cores. IsEmptyCore seller_node cores.seller) }
     {
         Ok(BackCores {
-            payment: NodeCore::new(alloc, node_at(4), Payments::new(alloc))?,
-            shipment: NodeCore::new(alloc, node_at(5), Shipments::new(alloc))?,
-            customer: NodeCore::new(alloc, node_at(6), Customers::new(alloc))?,
-            seller: NodeCore::new(alloc, node_at(7), Sellers::new(alloc))?,
+            payment: NodeCore::new(alloc, Role::Payment.node(), Payments::new(alloc))?,
+            shipment: NodeCore::new(alloc, Role::Shipment.node(), Shipments::new(alloc))?,
+            customer: NodeCore::new(alloc, Role::Customer.node(), Customers::new(alloc))?,
+            seller: NodeCore::new(alloc, Role::Seller.node(), Sellers::new(alloc))?,
         })
     }
-}
-
-// The node of the service with this number.
-fn node_at(service: u8) -> Node
-    requires { service < services }
-    ensures { result ≡ service }
-{
-    sender_of(Link::Told(service, 0))
 }
 
 // Offers an event to the core of a service.

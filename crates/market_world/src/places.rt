@@ -5,7 +5,7 @@ ghost use Rattle.market_world.specs.Places.{node_at, IsPlace};
 
 use market_events::{Node, Role, SERVICES};
 
-// Where a core stands: it is that of a service, or of a lane, 0 to 15.
+// Where a core stands: it is that of a service, or of a lane, below `LANES`.
 #[derive(Clone, Copy)]
 pub enum Place {
     Service(Role),

@@ -4,6 +4,7 @@ ghost use Rattle.std.specs.Prelude.{◌≡◌, ◌<◌, IfOk, OnErr};
 ghost use Rattle.std.specs.Option.{option_copied};
 ghost use Rattle.market_events.specs.Links.{IsLink};
 ghost use Rattle.market_events.specs.WellFormed.{IsRequest};
+ghost use Rattle.market_events.specs.declared.nodes.TheConstants.{NODES};
 ghost use Rattle.market_history.specs.declared.schedule.Step.TheVariants as step;
 ghost use Rattle.market_history.specs.Histories.{journal_at, no_histories};
 ghost use Rattle.market_history.specs.Lawful.{IsLawful};
@@ -77,7 +78,7 @@ impl World {
         Ok(Histories::new(journals))
     }
 
-    /// The cells of a service's node, 0 to 7, by rising name: its tables. A lane has none.
+    /// The cells of a service's node, by rising name: its tables. A lane has none.
     pub fn cells(&self, node: Node) -> Result<Vec<Cell>, AllocError>
         ensures { IfOk result (λ cells. cells.items ≡ cells_at self.now node) }
     {
@@ -143,7 +144,7 @@ impl World {
 
 // The node with this number.
 fn node_with(number: u32) -> Node
-    requires { number < 24 }
+    requires { number < NODES }
     ensures { result ≡ number }
 {
     Node::try_new(number).unwrap()

@@ -1,11 +1,9 @@
 -- The cells of the accounts, by their names and by the cards that a run took; the table's are those of the service.
-use Rattle.std.proofs.Common.{◌≡◌, ℕ, ◌≤◌, Bool, true, false, cond, ◌==◌, ◌||◌, List, [], ◌∷◌, ◌++◌, Option, Some, None, is_some, codes, filter_map, if◌then◌else◌, refl, ap, sym, subst, ◌∙◌, arith, ap₂}
+use Rattle.std.proofs.Common.{◌≡◌, ℕ, ◌≤◌, Bool, true, false, ◌==◌, ◌||◌, List, [], ◌∷◌, ◌++◌, Option, Some, None, is_some, codes, filter_map, if◌then◌else◌, refl, ap, sym, subst, ◌∙◌, arith, ap₂}
 use Rattle.std.specs.Fmt.{decimal}
 use Rattle.std.specs.List.{cons_option}
 use Rattle.std.specs.Option.{option_or}
-use Rattle.std.specs.BTreeMap.{is_at}
-use Rattle.std.specs.Map.{keys_of, lookup}
-use Rattle.std.specs.Ordering.{nat_cmp, is_eq}
+use Rattle.std.specs.Map.{keys_of}
 use Rattle.std.proofs.lemmas.Bool.{and_parts, eqb-true, leb-true, or_right}
 use Rattle.std.proofs.lemmas.Bool.Decides.{nat_tests}
 use Rattle.market_events.specs.declared.bodies.Body.{Body}
@@ -15,6 +13,7 @@ use Rattle.market_events.specs.declared.requests.Ask.TheVariants as ask
 use Rattle.market_events.specs.CellLists.{Within, cells_by, put_all}
 use Rattle.market_events.specs.Cells.{account_text, account_cell, account_cell_asked, payment_cells, cells_of, cells_listed}
 use Rattle.market_events.specs.Copies.{last_some}
+use Rattle.market_events.specs.Entries.{entry_at}
 use Rattle.market_events.specs.Formed.{id_formed, request_id_formed, ask_formed, body_formed}
 use Rattle.market_events.specs.Payments.{limit_asked, limit_in, limit_of, spent}
 use Rattle.market_events.specs.Services.{Follows, IsRunOf}
@@ -22,6 +21,7 @@ use Rattle.market_events.specs.Steps.{Step, taken_bodies}
 use Rattle.market_events.specs.WellFormed.{id_max, IsId}
 use Rattle.market_events.proofs.NamedCells.Keyed.{IsNaming, HasAll, IsFilled, is_among, cell_of_key, cells_by-each, joined_filled, number_naming, alike, entries_told}
 use Rattle.market_events.proofs.Steps.Payments.{limit_of-push}
+use Rattle.market_events.proofs.Values.Entries.{entry-among}
 use Rattle.market_events.proofs.Steps.Taken.{fits-parts, run_has}
 use Rattle.payment_service.specs.declared.tables.Account.{Account}
 use Rattle.payment_service.specs.Holds.{Holds}
@@ -42,17 +42,11 @@ text_filled (Some account) = joined_filled 32 (decimal account.limit) (decimal a
 
 -- a table has an entry of each customer with an account
 pub keys_all : (table : List (ℕ × Account)) → HasAll (λ a b. a == b) (texts_in table) (keys_of table)
-keys_all [] c some = some
-keys_all (e ∷ es) c some = by (keys_all es c) (c == e.0) refl
+keys_all table c some = by (entry_at table c) refl some
   where
-    alike_test : is_eq (nat_cmp c e.0) ≡ (c == e.0)
-    alike_test = grind (arith, nat_tests)
-
-    by : (is_some (texts_in es c) ≡ true → is_among (λ a b. a == b) (keys_of es) c ≡ true) → (b : Bool) → (c == e.0) ≡ b
-        → ((c == e.0) || is_among (λ a b. a == b) (keys_of es) c) ≡ true
-    by rest true here = rw here refl
-    by rest false other =
-        rw other (rest (sym (ap (λ b. is_some (text_by (cond b (Some e.1) (lookup (is_at (nat_cmp c)) es)))) (alike_test ∙ other)) ∙ some))
+    by : (o : Option Account) → entry_at table c ≡ o → is_some (text_by o) ≡ true → is_among (λ a b. a == b) (keys_of table) c ≡ true
+    by None found some = cc
+    by (Some account) found some = entry-among table c account found
 
 -- the customer whose card a body sets, and those whose card was set
 abbrev pub card_in : Body → Option ℕ

@@ -1,14 +1,12 @@
 -- The table of accounts: what it has of a customer, and what a body leaves of it.
 use Rattle.std.specs.Prelude.{ℕ, ◌+◌, ◌==◌, nat_le, List, Option, Some, None, Result, Ok, Err, if◌then◌else◌}
-use Rattle.std.specs.Ordering.{nat_cmp}
-use Rattle.std.specs.BTreeMap.{is_at}
-use Rattle.std.specs.Map.{lookup}
 use Rattle.market_events.specs.declared.bodies.Body.{Body}
 use Rattle.market_events.specs.declared.bodies.Body.TheVariants as body
 use Rattle.market_events.specs.declared.bodies.PayRule.{PayRule}
 use Rattle.market_events.specs.declared.bodies.PayRule.TheVariants as pay
 use Rattle.market_events.specs.declared.requests.Ask.{Ask}
 use Rattle.market_events.specs.declared.requests.Ask.TheVariants as ask
+use Rattle.market_events.specs.Entries.{entry_at}
 use Rattle.market_events.specs.Payments.{PaymentSums}
 use Rattle.payment_service.specs.declared.tables.Account.{Account}
 
@@ -23,7 +21,7 @@ spent_in (Some account) = account.spent
 
 -- what the table has of the customer
 abbrev pub account_at : List (ℕ × Account) → ℕ → Option Account
-account_at table customer = lookup (is_at (nat_cmp customer)) table
+account_at table customer = entry_at table customer
 
 abbrev pub limit_at : List (ℕ × Account) → ℕ → Option ℕ
 limit_at table customer = limit_held (account_at table customer)

@@ -11,7 +11,8 @@ use Rattle.std.proofs.lemmas.List.Folds.{list_any-append}
 use Rattle.market_events.specs.declared.bodies.Item.{Item}
 use Rattle.market_events.proofs.Values.Lists.{or_parts, or_false}
 use Rattle.shipment_service.specs.Deliveries.{heads_after}
-use Rattle.shipment_service.specs.Tables.{entry_at, of_seller, queue_of, first_number, Waits, IsRising}
+use Rattle.market_events.specs.Entries.{entry_at}
+use Rattle.shipment_service.specs.Tables.{of_seller, queue_of, first_number, Waits, IsRising}
 use Rattle.shipment_service.proofs.Lining.{same_some}
 use Rattle.shipment_service.proofs.Numbers.{Above, entry_at-cons, first_at, rising_head, rising_tail, rising_cons, same_entries}
 

@@ -7,7 +7,8 @@ use Rattle.std.proofs.lemmas.List.Elements.{filter-append}
 use Rattle.market_events.proofs.NamedCells.Keyed.{none_some}
 use Rattle.market_events.specs.declared.bodies.Item.{Item}
 use Rattle.market_events.proofs.Values.Lists.{and_both}
-use Rattle.shipment_service.specs.Tables.{entry_at, put_at, has_number, of_seller, queue_of, queue_at, first_number, Waits, AreBelow}
+use Rattle.market_events.specs.Entries.{entry_at}
+use Rattle.shipment_service.specs.Tables.{put_at, has_number, of_seller, queue_of, queue_at, first_number, Waits, AreBelow}
 use Rattle.shipment_service.proofs.Numbers.{or_else}
 
 -- two equal somethings

@@ -9,7 +9,8 @@ use Rattle.std.proofs.lemmas.Bool.{eqb-true, eq-eqb}
 use Rattle.std.proofs.lemmas.Bool.Decides.{nat_tests}
 use Rattle.std.proofs.Math.Seq.{take-suc}
 use Rattle.market_events.proofs.Values.Lists.{list_any-push}
-use Rattle.shipment_service.specs.Tables.{entry_at, put_at, has_number}
+use Rattle.market_events.specs.Entries.{entry_at}
+use Rattle.shipment_service.specs.Tables.{put_at, has_number}
 
 -- the test of two numbers, as a map makes it
 pub at_test : (n k : ℕ) → is_eq (nat_cmp n k) ≡ (k == n)

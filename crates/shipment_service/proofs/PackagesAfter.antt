@@ -18,7 +18,8 @@ use Rattle.market_events.proofs.Steps.Shipments.{packages-push, packages-same, i
 use Rattle.shipment_service.specs.declared.package.Package.{Package}
 use Rattle.shipment_service.specs.Deliveries.{goes, served_of, taken_of, left_of}
 use Rattle.shipment_service.specs.Holds.{package_by, packages_by, waiting_by}
-use Rattle.shipment_service.specs.Tables.{open_of, closed_of, close_if, entry_at, has_number, item_packed}
+use Rattle.market_events.specs.Entries.{entry_at}
+use Rattle.shipment_service.specs.Tables.{open_of, closed_of, close_if, has_number, item_packed}
 use Rattle.shipment_service.proofs.Delivered.{filter-items, goes-items, delivered-any}
 use Rattle.shipment_service.proofs.Heads.{Among, entry-among}
 use Rattle.shipment_service.proofs.Numbers.{kept_if, entry_at-filter, has_number-none, has_number-some}

@@ -10,7 +10,8 @@ use Rattle.market_events.specs.declared.bodies.Item.{Item}
 use Rattle.market_events.specs.Shipments.{most_sellers}
 use Rattle.market_events.proofs.Values.Lists.{or_parts, or_false}
 use Rattle.shipment_service.specs.Deliveries.{heads_after, served_of, goes, taken_of, left_of, past, IsGrouped}
-use Rattle.shipment_service.specs.Tables.{entry_at, put_at, has_number, of_seller, queue_of, queue_at, is_with, group_of, behind_of, groups_of, follower_of, served_queue, first_number, Waits, IsRising}
+use Rattle.market_events.specs.Entries.{entry_at}
+use Rattle.shipment_service.specs.Tables.{put_at, has_number, of_seller, queue_of, queue_at, is_with, group_of, behind_of, groups_of, follower_of, served_queue, first_number, Waits, IsRising}
 use Rattle.shipment_service.proofs.Grouping.{grouped-filter, behind_of-past, behind_of-filter, group_of-filter}
 use Rattle.shipment_service.proofs.Heads.{Among, among-take, among-filter, among-any, any-among, among-above, entry-among, seller_of, IsFirst, heads-first, Apart, heads-apart, apart-take, turn_of, among-turns, turns-among, first_of}
 use Rattle.market_events.proofs.NamedCells.Keyed.{none_some}

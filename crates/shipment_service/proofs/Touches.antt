@@ -25,7 +25,8 @@ use Rattle.shipment_service.specs.declared.package.Package.{Package}
 use Rattle.shipment_service.specs.declared.service.Shipments.{Shipments}
 use Rattle.shipment_service.specs.Cells.{name_by, text_by, texts_in, names_from}
 use Rattle.shipment_service.specs.Holds.{packages_by, waiting_by, Holds}
-use Rattle.shipment_service.specs.Tables.{closed_of, close_if, open_of, entry_at, put_at, groups_of, has_number, AreBelow, IsRising, item_packed}
+use Rattle.market_events.specs.Entries.{entry_at}
+use Rattle.shipment_service.specs.Tables.{closed_of, close_if, open_of, put_at, groups_of, has_number, AreBelow, IsRising, item_packed}
 use Rattle.shipment_service.proofs.Runs.{packages-few, waiting-rise, waiting-lined}
 use Rattle.std.specs.Ordering.{nat_cmp, eq_by_cmp, is_eq}
 use Rattle.std.proofs.lemmas.Map.Keys.{IsDistinct-from_sorted}

@@ -2,14 +2,14 @@
 -- numbers, and those that wait for their delivery.
 use Rattle.std.specs.Prelude.{◌≡◌, ℕ, ◌==◌, Bool, true, false, nat_lt, List, [], ◌∷◌, ◌++◌, Option, Some}
 use Rattle.std.specs.Prelude.{◌↔◌, None, option_map, unwrap_or, map, filter, take, drop, fold, if◌then◌else◌}
-use Rattle.std.specs.BTreeMap.{is_at}
 use Rattle.std.specs.List.{enumerate_from, list_any, list_all, prefix_len}
 use Rattle.std.specs.List.Sorted.{IsStrictlySortedBy}
-use Rattle.std.specs.Map.{lookup, keys_of}
+use Rattle.std.specs.Map.{keys_of}
 use Rattle.std.specs.Ordering.{nat_cmp}
 use Rattle.market_amounts.specs.declared.keys.RequestId.{RequestId}
 use Rattle.market_events.specs.declared.bodies.Item.{Item}
 use Rattle.market_events.specs.declared.bodies.PricedLine.{PricedLine}
+use Rattle.market_events.specs.Entries.{entry_at}
 use Rattle.market_events.specs.Requests.{same_id}
 use Rattle.shipment_service.specs.declared.package.Package.{Package}
 
@@ -31,10 +31,6 @@ close_if test packages =
 -- the number is one of these
 abbrev pub is_one_of : List ℕ → ℕ → Bool
 is_one_of numbers n = list_any (λ number. n == number) numbers
-
--- what entries have at a number
-abbrev pub entry_at : {X : Type 0} → List (ℕ × X) → ℕ → Option X
-entry_at entries n = lookup (is_at (nat_cmp n)) entries
 
 -- what the pairs put at a number, where o stood, the last one of it
 abbrev pub put_at : {X : Type 0} → ℕ → Option X → List (ℕ × X) → Option X

@@ -3,7 +3,8 @@
 ghost use Rattle.std.specs.Prelude.{◌≡◌, ℕ, ◌==◌, true, None, Some, [], take, if◌then◌else◌};
 ghost use Rattle.std.specs.Prelude.{OnOk, OnErr, IfOk};
 ghost use Rattle.market_events.specs.Shipments.{most_sellers};
-ghost use Rattle.shipment_service.specs.Tables.{entry_at, put_at, has_number, IsRising};
+ghost use Rattle.market_events.specs.Entries.{entry_at};
+ghost use Rattle.shipment_service.specs.Tables.{put_at, has_number, IsRising};
 
 use std::alloc::{AllocError, Global};
 use std::collections::BTreeMap;

@@ -2,7 +2,8 @@
 
 ghost use Rattle.std.specs.Prelude.{◌≡◌, ℕ, ◌==◌, Some, [], if◌then◌else◌, OnOk, IfOk};
 ghost use Rattle.std.specs.Map.{keys_of, values_of};
-ghost use Rattle.shipment_service.specs.Tables.{entry_at, put_at, IsRising};
+ghost use Rattle.market_events.specs.Entries.{entry_at};
+ghost use Rattle.shipment_service.specs.Tables.{put_at, IsRising};
 
 use market_events::Item;
 use std::alloc::{AllocError, Global};

@@ -2,7 +2,8 @@
 
 ghost use Rattle.std.specs.Prelude.{◌≡◌, ℕ, ◌-◌, ◌++◌, ◌==◌, [], ◌∷◌, ◌↔◌, IsTrue, IsSome, None, length};
 ghost use Rattle.std.specs.Prelude.{take, filter_map, if◌then◌else◌, OnOk, OnErr, IfOk};
-ghost use Rattle.shipment_service.specs.Tables.{entry_at, put_at, queue_at, group_of, groups_of, behind_of};
+ghost use Rattle.market_events.specs.Entries.{entry_at};
+ghost use Rattle.shipment_service.specs.Tables.{put_at, queue_at, group_of, groups_of, behind_of};
 ghost use Rattle.shipment_service.specs.Tables.{follower_of, served_queue};
 
 use crate::picked::Picked;

@@ -1,7 +1,10 @@
 //! Copies of events and entries, which succeed here, and counts of events.
 
 use market_amounts::{ProductKey, RequestId};
-use market_events::{Ask, Body, Counts, Entry, Event, PRODUCT_TO_STOCK, Reply, Request, What};
+use market_events::{
+    Ask, Body, CART_TO_STOCK, Counts, Entry, Event, PRODUCT_TO_STOCK, Reply, Request,
+    STOCK_TO_CART, What, link_index,
+};
 use std::test::Fail;
 
 #[test]
@@ -54,14 +57,17 @@ fn events_are_copied(rt: HostRuntime) -> Result<(), Fail> {
 
 #[test]
 fn counts_rise(rt: HostRuntime) {
+    let raised = link_index(STOCK_TO_CART) as u8;
+    let merged = link_index(PRODUCT_TO_STOCK) as u8;
+    let left = link_index(CART_TO_STOCK) as u8;
     let mut past = Counts::zero();
-    past.raise(3, 7);
-    past.raise(3, 2);
+    past.raise(raised, 7);
+    past.raise(raised, 2);
     let mut other = Counts::zero();
-    other.raise(3, 5);
-    other.raise(1, 4);
+    other.raise(raised, 5);
+    other.raise(merged, 4);
     past.merge(&other);
-    assert_eq!(rt; past.get(1), 4);
-    assert_eq!(rt; past.get(2), 0);
-    assert_eq!(rt; past.get(3), 7);
+    assert_eq!(rt; past.get(merged), 4);
+    assert_eq!(rt; past.get(left), 0);
+    assert_eq!(rt; past.get(raised), 7);
 }

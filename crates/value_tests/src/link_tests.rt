@@ -1,27 +1,49 @@
 //! The tables of the links, written out again.
 
 use market_amounts::{Cents, ProductKey};
-use market_events::{Ask, Link, SERVICE_LINKS, link_index, receiver_of, sender_of, service_of};
+use market_events::{
+    Ask, LANES, Link, Role, SERVICE_LINKS, SERVICES, link_index, receiver_of, sender_of, service_of,
+};
 use std::test::Fail;
 
-const ENDS: [(u32, u32); SERVICE_LINKS] = [
-    (1, 0),
-    (1, 2),
-    (0, 2),
-    (2, 0),
-    (2, 3),
-    (3, 4),
-    (3, 7),
-    (3, 0),
-    (4, 2),
-    (4, 3),
-    (4, 5),
-    (4, 6),
-    (4, 7),
-    (5, 3),
-    (5, 7),
-    (5, 6),
+const ENDS: [(Role, Role); SERVICE_LINKS] = [
+    (Role::Product, Role::Cart),
+    (Role::Product, Role::Stock),
+    (Role::Cart, Role::Stock),
+    (Role::Stock, Role::Cart),
+    (Role::Stock, Role::Order),
+    (Role::Order, Role::Payment),
+    (Role::Order, Role::Seller),
+    (Role::Order, Role::Cart),
+    (Role::Payment, Role::Stock),
+    (Role::Payment, Role::Order),
+    (Role::Payment, Role::Shipment),
+    (Role::Payment, Role::Customer),
+    (Role::Payment, Role::Seller),
+    (Role::Shipment, Role::Order),
+    (Role::Shipment, Role::Seller),
+    (Role::Shipment, Role::Customer),
 ];
+
+// The services in the order of their nodes.
+const IN_ORDER: [Role; SERVICES as usize] = [
+    Role::Cart,
+    Role::Product,
+    Role::Stock,
+    Role::Order,
+    Role::Payment,
+    Role::Shipment,
+    Role::Customer,
+    Role::Seller,
+];
+
+#[test]
+fn nodes_of_services_in_order(rt: HostRuntime) -> Result<(), Fail> {
+    for number in 0..SERVICES {
+        assert_eq!(rt; IN_ORDER[number as usize].node().get(), number);
+    }
+    Ok(())
+}
 
 #[test]
 fn each_place_once(rt: HostRuntime) -> Result<(), Fail> {
@@ -30,14 +52,14 @@ fn each_place_once(rt: HostRuntime) -> Result<(), Fail> {
         assert_eq!(rt; link_index(Link::Service(number)), next);
         next += 1;
     }
-    for lane in 0..16u8 {
-        for service in 0..8u8 {
+    for lane in 0..LANES as u8 {
+        for service in 0..SERVICES as u8 {
             assert_eq!(rt; link_index(Link::Asked(lane, service)), next);
             next += 1;
         }
     }
-    for lane in 0..16u8 {
-        for service in 0..8u8 {
+    for lane in 0..LANES as u8 {
+        for service in 0..SERVICES as u8 {
             assert_eq!(rt; link_index(Link::Told(service, lane)), next);
             next += 1;
         }
@@ -50,12 +72,12 @@ fn each_place_once(rt: HostRuntime) -> Result<(), Fail> {
 fn both_ends(rt: HostRuntime) -> Result<(), Fail> {
     for number in 0..SERVICE_LINKS as u8 {
         let (from, to) = ENDS[number as usize];
-        assert_eq!(rt; sender_of(Link::Service(number)).get(), from);
-        assert_eq!(rt; receiver_of(Link::Service(number)).get(), to);
+        assert_eq!(rt; sender_of(Link::Service(number)), from.node());
+        assert_eq!(rt; receiver_of(Link::Service(number)), to.node());
     }
-    for lane in 0..16u8 {
-        for service in 0..8u8 {
-            let at = 8 + u32::from(lane);
+    for lane in 0..LANES as u8 {
+        for service in 0..SERVICES as u8 {
+            let at = SERVICES + u32::from(lane);
             assert_eq!(rt; sender_of(Link::Asked(lane, service)).get(), at);
             assert_eq!(rt;
                 receiver_of(Link::Asked(lane, service)).get(),
@@ -78,8 +100,11 @@ fn services_of_requests(rt: HostRuntime) -> Result<(), Fail> {
         product: 40,
     };
     let price = Cents::try_new(1000)?;
-    assert_eq!(rt; service_of(&Ask::Create(key, price, price)).get(), 1);
-    assert_eq!(rt; service_of(&Ask::Price(key, price)).get(), 1);
-    assert_eq!(rt; service_of(&Ask::View(key)).get(), 0);
+    assert_eq!(rt;
+        service_of(&Ask::Create(key, price, price)),
+        Role::Product.node()
+    );
+    assert_eq!(rt; service_of(&Ask::Price(key, price)), Role::Product.node());
+    assert_eq!(rt; service_of(&Ask::View(key)), Role::Cart.node());
     Ok(())
 }

@@ -26,7 +26,7 @@ use Rattle.market_events.specs.declared.events.Offer.TheVariants as offer
 use Rattle.std.specs.declared.alloc.AllocError.{AllocError}
 use Rattle.market_node.specs.Cores.{CoreState, with_entries}
 use Rattle.market_node.specs.Keeping.{is_awaited}
-use Rattle.world_tests.specs.TestedNodes.{GrewLittle}
+use Rattle.world_tests.specs.TestedNodes.{tested_node, GrewLittle}
 
 -- a request that is asked first awaits its reply
 pub first_awaited : (n : ℕ) (r : Request) → services ≤ n → is_awaited (grow n [] (Arrival.Gives r)) r.id ≡ true
@@ -59,7 +59,7 @@ none_copied {A = A} lent b there copied tested none = ap (λ o. is_none o) (sym 
     by_lent (Some x) empty = let no : ⊥ = cc in absurd no
 
 -- a request that is asked and has no reply awaits it
-pub asked_awaited : (old new : CoreState) (r : Request) → old.node ≡ 15 → new ≡ with_entries old (grow old.node old.entries (Arrival.Gives r)) → is_none (reply_of new.entries r.id) ≡ true → is_awaited new.entries r.id ≡ true
+pub asked_awaited : (old new : CoreState) (r : Request) → old.node ≡ tested_node → new ≡ with_entries old (grow old.node old.entries (Arrival.Gives r)) → is_none (reply_of new.entries r.id) ≡ true → is_awaited new.entries r.id ≡ true
 asked_awaited old new r node asked open_one =
     let lane : services ≤ old.node = omega arith in
     let found : is_some (with_id r.id (requests_given new.entries)) ≡ true =
@@ -99,7 +99,7 @@ stayed : (old new : CoreState) → new ≡ old → GrewLittle old new
 stayed old new is = subst (λ core. GrewLittle old core) (sym is) (record { node = refl; few = omega arith; clock = omega arith })
 
 -- whatever comes of a request
-pub grew_given : (r : Result Give AllocError) (old new : CoreState) (request : Request) → old.node ≡ 15
+pub grew_given : (r : Result Give AllocError) (old new : CoreState) (request : Request) → old.node ≡ tested_node
     → IfOk r (λ g. g ≡ give.Asked → new ≡ with_entries old (grow old.node old.entries (Arrival.Gives request))) → IfOk r (λ g. g ≢ give.Asked → new ≡ old) → OnErr r (new ≡ old)
     → GrewLittle old new
 grew_given (Err e) old new request node asked other err = stayed old new err
@@ -114,7 +114,7 @@ grew_given (Ok give.Waiting) old new request node asked other err = stayed old n
 grew_given (Ok give.Full) old new request node asked other err = stayed old new (other (λ no. cc))
 
 -- whatever comes of an event that tells a reply at a clock of at most 4
-pub grew_told : (r : Result Offer AllocError) (old new : CoreState) (event : Event) (id : RequestId) (reply : Reply) → old.node ≡ 15 → event.body ≡ body.Told id reply → event.clock ≤ 4
+pub grew_told : (r : Result Offer AllocError) (old new : CoreState) (event : Event) (id : RequestId) (reply : Reply) → old.node ≡ tested_node → event.body ≡ body.Told id reply → event.clock ≤ 4
     → IfOk r (λ o. o ≡ offer.Take → new ≡ with_entries old (grow old.node old.entries (Arrival.Takes event))) → IfOk r (λ o. o ≢ offer.Take → new ≡ old) → OnErr r (new ≡ old)
     → GrewLittle old new
 grew_told (Err e) old new event id reply node told low taken other err = stayed old new err

@@ -1,4 +1,4 @@
-//! The core of lane 7, step by step; the values are worked out by hand.
+//! The core of the lane of caller 7, step by step; the values are worked out by hand.
 
 ghost use Rattle.std.specs.Prelude.{◌≡◌, ◌≢◌, ℕ, ◌+◌, ◌≤◌, true, IfOk, OnOk};
 ghost use Rattle.market_amounts.specs.declared.keys.RequestId.{RequestId};
@@ -10,20 +10,30 @@ ghost use Rattle.market_node.specs.Keeping.{is_awaited};
 ghost use Rattle.world_tests.specs.TestedNodes.{IsSmall, IsWithin, GrewLittle};
 
 use market_amounts::{ProductKey, RequestId};
-use market_events::{Ask, Body, Counts, Event, Link, Offer, Reply, Request};
+use market_events::{Ask, Body, Counts, Event, LANES, Link, Offer, Reply, Request, Role};
 use market_history::Give;
 use market_node::{Core, LaneCore};
 use std::alloc::AllocError;
 use std::process::Abort;
 use std::test::Fail;
 
-// A request of lane 7 to remove a product of seller 5 from a cart.
+// The caller of the requests, its lane, and the link on which the cart tells that lane.
+const CALLER: u32 = 7;
+
+const LANE: u8 = (CALLER % LANES) as u8;
+
+const CART_TO_LANE: Link = Link::Told(Role::Cart as u8, LANE);
+
+// A request of the caller to remove a product of seller 5 from a cart.
 fn remove(number: u32, product: u32) -> Request
     ensures formed { IsRequest result }
-    ensures lane { lane_of result.id ≡ 7 }
+    ensures lane { lane_of result.id ≡ LANE }
 {
     Request {
-        id: RequestId { caller: 7, number },
+        id: RequestId {
+            caller: CALLER,
+            number,
+        },
         ask: Ask::Remove(7, ProductKey { seller: 5, product }),
     }
 }
@@ -31,7 +41,7 @@ fn remove(number: u32, product: u32) -> Request
 // Gives the lane a request.
 fn give(lane: &mut LaneCore, request: &Request) -> Result<Give, AllocError>
     requires formed { IsRequest request.now }
-    requires own { lane_of request.now.id ≡ 7 }
+    requires own { lane_of request.now.id ≡ LANE }
     requires small { IsSmall lane.old }
     ensures grew { GrewLittle lane.old lane.new }
     ensures asked { IfOk result (λ give. give ≡ Give.Asked
@@ -51,7 +61,7 @@ fn tell(lane: &mut LaneCore, id: RequestId, number: u32) -> Result<Offer, AllocE
     ensures grew { GrewLittle lane.old lane.new }
 {
     let event = Event {
-        link: Link::Told(0, 7),
+        link: CART_TO_LANE,
         number,
         clock: 4,
         past: Counts::zero(),
@@ -63,7 +73,7 @@ fn tell(lane: &mut LaneCore, id: RequestId, number: u32) -> Result<Offer, AllocE
 // Gives the lane a request, and says whether the lane asked it and awaits its reply.
 fn ask(lane: &mut LaneCore, request: &Request) -> Result<bool, AllocError>
     requires formed { IsRequest request.now }
-    requires own { lane_of request.now.id ≡ 7 }
+    requires own { lane_of request.now.id ≡ LANE }
     requires small { IsSmall lane.old }
     ensures grew { GrewLittle lane.old lane.new }
     ensures awaited { IfOk result (λ asked. asked ≡ true
@@ -108,7 +118,7 @@ fn turn_away(
     entries: usize,
 ) -> Result<Give, AllocError>
     requires formed { IsRequest request.now }
-    requires own { lane_of request.now.id ≡ 7 }
+    requires own { lane_of request.now.id ≡ LANE }
     requires small { IsSmall lane.old }
     ensures { OnOk result (lane.new ≡ lane.old) }
 {
@@ -124,7 +134,7 @@ fn a_full_lane_asks_no_more(rt: HostRuntime) -> Result<(), Fail> {
     let changed = remove(1, 11);
     let last = remove(16_384, 10);
     let new = remove(16_385, 10);
-    let mut lane = LaneCore::new(rt.alloc(), 7)?;
+    let mut lane = LaneCore::new(rt.alloc(), LANE)?;
     fill(&rt, &mut lane)?;
     assert!(rt; ask(&mut lane, &last)?);
     assert_eq!(rt; turn_away(&rt, &mut lane, &new, 65_534)?, Give::Waiting);
@@ -142,7 +152,7 @@ fn a_lane_keeps_what_it_asks(rt: HostRuntime) -> Result<(), Fail> {
     let changed = remove(1, 11);
     let second = remove(2, 10);
     let third = remove(3, 10);
-    let mut lane = LaneCore::new(rt.alloc(), 7)?;
+    let mut lane = LaneCore::new(rt.alloc(), LANE)?;
     assert_eq!(rt; give(&mut lane, &first)?, Give::Asked);
     assert_eq!(rt; tell(&mut lane, first.id, 1)?, Offer::Take);
     assert_eq!(rt; give(&mut lane, &first)?, Give::Kept);

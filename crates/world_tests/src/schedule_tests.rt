@@ -8,14 +8,25 @@ ghost use Rattle.market_history.specs.Schedule.{IsPlayable};
 use crate::table_tests;
 use market_amounts::RequestId;
 use market_events::{
-    CART_TO_STOCK, LINKS, Link, Node, Offer, PRODUCT_TO_CART, PRODUCT_TO_STOCK, Reply, Request,
-    STOCK_TO_CART, What, link_at,
+    CART_TO_STOCK, LANES, LINKS, Link, Node, Offer, PRODUCT_TO_CART, PRODUCT_TO_STOCK, Reply,
+    Request, Role, STOCK_TO_CART, What, lane_node, lane_of, link_at,
 };
 use market_history::{Give, Outcome, Step};
 use market_texts::{read_reply, read_request};
 use market_world::{World, oldest, run_schedule, settled};
 use std::alloc::AllocError;
 use std::process::Abort;
+
+// The lane of caller 7, and the links on which it asks the cart and the products, and is told.
+const SEVEN: u8 = (7 % LANES) as u8;
+
+pub const SEVEN_TO_CART: Link = Link::Asked(SEVEN, Role::Cart as u8);
+
+const CART_TO_SEVEN: Link = Link::Told(Role::Cart as u8, SEVEN);
+
+const SEVEN_TO_PRODUCT: Link = Link::Asked(SEVEN, Role::Product as u8);
+
+const PRODUCT_TO_SEVEN: Link = Link::Told(Role::Product as u8, SEVEN);
 
 // What is played on a new world.
 #[derive(Clone, Copy)]
@@ -102,10 +113,9 @@ pub fn answer(rt: &impl Abort, world: &mut World, text: &[u8]) {
     settle(rt, world);
 }
 
-// The lane with this node answered the request so.
-pub fn expect_answer(rt: &impl Abort, world: &World, lane: u32, id: RequestId, reply: &Reply) {
-    let node = Node::try_new(lane).expect(rt, "a node");
-    assert!(rt; is_answered(world, node, id, reply));
+// Its lane answered the request so.
+pub fn expect_answer(rt: &impl Abort, world: &World, id: RequestId, reply: &Reply) {
+    assert!(rt; is_answered(world, lane_node(lane_of(id)), id, reply));
 }
 
 fn is_answered(world: &World, lane: Node, id: RequestId, reply: &Reply) -> bool {
@@ -124,20 +134,20 @@ fn set_a_line_early(rt: &impl Abort, world: &mut World) {
     let create = request_of(rt, b"7.1 create 5 10 1000 50");
     let line = request_of(rt, b"7.2 line 7 5 10 1 0");
     give(rt, world, &create, Give::Asked);
-    offer(rt, world, Link::Asked(7, 1), 1, Offer::Take);
-    offer(rt, world, Link::Told(1, 7), 1, Offer::Take);
+    offer(rt, world, SEVEN_TO_PRODUCT, 1, Offer::Take);
+    offer(rt, world, PRODUCT_TO_SEVEN, 1, Offer::Take);
     give(rt, world, &line, Give::Asked);
-    offer(rt, world, Link::Asked(7, 0), 1, Offer::NotReady);
+    offer(rt, world, SEVEN_TO_CART, 1, Offer::NotReady);
     offer(rt, world, PRODUCT_TO_CART, 1, Offer::Take);
-    offer(rt, world, Link::Asked(7, 0), 1, Offer::Take);
-    offer(rt, world, Link::Told(0, 7), 1, Offer::Take);
+    offer(rt, world, SEVEN_TO_CART, 1, Offer::Take);
+    offer(rt, world, CART_TO_SEVEN, 1, Offer::Take);
 }
 
 // A checkout of it that is short, which stock takes no sooner than the product.
 fn check_out_early(rt: &impl Abort, world: &mut World) {
     let checkout = request_of(rt, b"7.3 checkout 7");
     give(rt, world, &checkout, Give::Asked);
-    offer(rt, world, Link::Asked(7, 0), 2, Offer::Take);
+    offer(rt, world, SEVEN_TO_CART, 2, Offer::Take);
     offer(rt, world, CART_TO_STOCK, 1, Offer::NotReady);
     offer(rt, world, PRODUCT_TO_STOCK, 1, Offer::Take);
     offer(rt, world, CART_TO_STOCK, 1, Offer::Take);
@@ -160,19 +170,19 @@ fn check_line_waits(rt: &(impl Abort + AllocGlobal), world: &mut World) {
     assert!(rt; !settled(world));
     assert_eq!(rt; oldest(world), Some((STOCK_TO_CART, 1)));
     offer(rt, world, STOCK_TO_CART, 1, Offer::Take);
-    offer(rt, world, Link::Told(0, 7), 2, Offer::Take);
+    offer(rt, world, CART_TO_SEVEN, 2, Offer::Take);
     assert!(rt; settled(world));
     let id = RequestId {
         caller: 7,
         number: 3,
     };
-    expect_answer(rt, world, 15, id, &short);
+    expect_answer(rt, world, id, &short);
 }
 
 // Offers the first events of all links, each three times, in an order that begins at this link and goes on by
 // leaps.
 fn offer_all(rt: &impl Abort, world: &mut World, begin: u32)
-    requires { begin < 272 }
+    requires { begin < LINKS }
 {
     for leap in 0..LINKS {
         let link = link_at((begin + 101 * leap) % LINKS);
@@ -215,28 +225,34 @@ fn cells_text(world: &World, node: Node) -> Result<Vec<u8>, AllocError> {
     Ok(text)
 }
 
-pub fn expect_cells(rt: &impl Abort, world: &World, number: u32, expected: &[u8]) {
-    let node = Node::try_new(number).expect(rt, "a node");
-    let text = cells_text(world, node).expect(rt, "memory");
+// The tables of this service.
+pub fn expect_cells(rt: &impl Abort, world: &World, service: Role, expected: &[u8]) {
+    let text = cells_text(world, service.node()).expect(rt, "memory");
     assert_eq!(rt; text.as_slice(), expected);
 }
 
 // The tables after two pieces were bought.
 fn expect_tables(rt: &impl Abort, world: &World) {
-    expect_cells(rt, world, 0, b"copy 5:10 live 1 1000 50\n");
-    expect_cells(rt, world, 1, b"product 5:10 live 1 1000 50\n");
-    expect_cells(rt, world, 2, b"copy 5:10 live 1 1000 50\nstock 5:10 1 0\n");
-    expect_cells(rt, world, 3, b"order 7.5 shipped 1950 1\n");
-    expect_cells(rt, world, 4, b"account 7 10000 1950\n");
-    expect_cells(rt, world, 5, b"package 1 7.5:7:5:10 open\n");
-    expect_cells(rt, world, 6, b"customer 7 1 0 0\n");
+    expect_cells(rt, world, Role::Cart, b"copy 5:10 live 1 1000 50\n");
+    expect_cells(rt, world, Role::Product, b"product 5:10 live 1 1000 50\n");
     expect_cells(
         rt,
         world,
-        7,
+        Role::Stock,
+        b"copy 5:10 live 1 1000 50\nstock 5:10 1 0\n",
+    );
+    expect_cells(rt, world, Role::Order, b"order 7.5 shipped 1950 1\n");
+    expect_cells(rt, world, Role::Payment, b"account 7 10000 1950\n");
+    expect_cells(rt, world, Role::Shipment, b"package 1 7.5:7:5:10 open\n");
+    expect_cells(rt, world, Role::Customer, b"customer 7 1 0 0\n");
+    expect_cells(
+        rt,
+        world,
+        Role::Seller,
         b"change 5:1 1 invoiced\nchange 5:2 1 paid\nchange 5:3 1 shipped\nentry 5:1 7.5:10:2:1950\n",
     );
-    expect_cells(rt, world, 15, b"");
+    let lane = cells_text(world, lane_node(SEVEN)).expect(rt, "memory");
+    assert!(rt; lane.is_empty());
 }
 
 #[test]
@@ -247,7 +263,7 @@ fn a_checkout_is_whole_in_any_order(rt: HostRuntime) {
 // A checkout that is whole, each event of which is offered three times and far out of order.
 fn check_any_order(rt: &(impl Abort + AllocGlobal), world: &mut World) {
     let whole = reply_of(rt, b"whole 1950");
-    let lane = Node::try_new(15).expect(rt, "a node");
+    let lane = lane_node(SEVEN);
     answer_by_leaps(rt, world, b"7.1 create 5 10 1000 50");
     answer_by_leaps(rt, world, b"7.2 stock 5 10 3");
     answer_by_leaps(rt, world, b"7.3 card 7 10000");
@@ -257,7 +273,7 @@ fn check_any_order(rt: &(impl Abort + AllocGlobal), world: &mut World) {
         caller: 7,
         number: 5,
     };
-    expect_answer(rt, world, 15, id, &whole);
+    expect_answer(rt, world, id, &whole);
     expect_tables(rt, world);
     let histories = world.histories().expect(rt, "memory");
     assert_eq!(rt; histories.journal(lane).entries().len(), 20);

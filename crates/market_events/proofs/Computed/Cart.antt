@@ -62,7 +62,7 @@ end_examples = record {
   ended_without_card = refl;
   ended_over_limit = refl;
   ended_whole = refl;
-  caller_20_is_told_on_lane_4 = refl;
+  caller_20_is_told_on_its_lane = refl;
   change_is_nothing = refl;
 }
 

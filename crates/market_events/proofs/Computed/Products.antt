@@ -20,6 +20,6 @@ product_examples = record {
   delete_of_gone = refl;
   delete_of_live = refl;
   delete_after_price_is_version_3 = refl;
-  caller_20_is_told_on_lane_4 = refl;
+  caller_20_is_told_on_its_lane = refl;
   change_is_nothing = refl;
 }

@@ -232,15 +232,6 @@ last_some-append f (x ∷ xs) ys = ap (λ o. option_or o (f x)) (last_some-appen
     or_assoc None b c = refl
     or_assoc (Some z) b c = refl
 
--- a name of another table
-pub other_table : {K : Type 0} (name : K → CellName) (text : K → Option (List ℕ)) (keys : List K) (table : List ℕ) → ((k : K) → (name k).table ≡ table)
-    → (at : CellName) → (at.table ≡ table → ⊥) → last_some (value_at at) (cells_by name text keys) ≡ None
-other_table name text keys table in_table at other = by (last_some (value_at at) (cells_by name text keys)) refl
-  where
-    by : (o : Option (List ℕ)) → last_some (value_at at) (cells_by name text keys) ≡ o → last_some (value_at at) (cells_by name text keys) ≡ None
-    by None e = e
-    by (Some v) e = let n = named_at name text keys at v e in absurd (other (ap (λ (m : CellName). m.table) n.is ∙ in_table n.key))
-
 -- putting the cells of each key
 pub put_each-all : {A : Type 0} (cell_of : A → Option Cell) (es : List (CellName × List ℕ)) (xs : List A) → put_each cell_of es xs ≡ put_all es (filter_map cell_of xs)
 put_each-all cell_of es [] = refl

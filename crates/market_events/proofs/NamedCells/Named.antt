@@ -64,9 +64,6 @@ entries_of all = fold put_cell [] all
 abbrev pub cell_at : CellName × List ℕ → Cell
 cell_at e = record { name = e.0; value = e.1 }
 
-pub cells_listed-entries : (all : List Cell) → cells_listed all ≡ map cell_at (entries_of all)
-cells_listed-entries all = refl
-
 -- an entry is put where a map inserts it
 pub put-insert_entry : (es : List (CellName × List ℕ)) (k : CellName) (v : List ℕ) → entries.put name_cmp k v es ≡ insert_entry name_cmp es k v
 put-insert_entry [] k v = refl

@@ -1,5 +1,5 @@
 -- The status of an order after a run: what it says of what was taken, and what one more step makes of it.
-use Rattle.std.proofs.Common.{◌≡◌, ℕ, Bool, true, false, ◌&&◌, ◌||◌, not, List, [], ◌∷◌, ◌++◌, Option, Some, None, is_some, if◌then◌else◌, refl, ap, sym, ◌∙◌, find}
+use Rattle.std.proofs.Common.{◌≡◌, ℕ, Bool, true, false, ◌&&◌, List, [], ◌∷◌, ◌++◌, Option, Some, None, is_some, if◌then◌else◌, refl, ap, sym, ◌∙◌, find}
 use Rattle.std.specs.List.{list_any}
 use Rattle.market_amounts.specs.declared.keys.RequestId.{RequestId}
 use Rattle.market_events.specs.declared.bodies.Body.TheVariants as body
@@ -8,56 +8,23 @@ use Rattle.market_events.specs.declared.bodies.PayRule.{PayRule}
 use Rattle.market_events.specs.declared.bodies.PricedLine.{PricedLine}
 use Rattle.market_events.specs.declared.replies.OrderStatus.{OrderStatus}
 use Rattle.market_events.specs.declared.replies.OrderStatus.TheVariants as status
-use Rattle.market_events.specs.Orders.{checkouts_taken, is_of, items_in, items_taken, open_lines, ships, is_taken, is_nil, order_status, order_total}
+use Rattle.market_events.specs.Orders.{checkouts_taken, is_of, items_in, items_taken, open_lines, ships, is_taken, is_nil, order_status}
 use Rattle.market_events.specs.Requests.{same_id}
-use Rattle.market_events.specs.Services.{order_fits, ships_fit, is_for, is_for_lines, order_item_fits, is_line_of}
+use Rattle.market_events.specs.Services.{order_fits, is_for, is_for_lines, order_item_fits, is_line_of}
 use Rattle.market_events.specs.Steps.{Step}
 use Rattle.market_events.specs.Stocks.{reservation_in, confirms, fails, is_settled, Reservation}
 use Rattle.market_events.proofs.Steps.Orders.{has_order-same, has_order-confirmed, lines_of, open_lines-same, open_lines-other, open_lines-new, open_lines-undelivered, open_in-all, status_by, checkouts_taken-same, checkouts_taken-confirmed}
 use Rattle.market_events.proofs.Runs.Orders.{OrderRun, is_item_for}
-use Rattle.market_events.proofs.Steps.Reservations.{for-of, for_lines-of, sum-none, sum-found, found-push, none-found, is_customers, is_customers_with, found_with, any-found, any_for-found, any_for_lines-found}
+use Rattle.market_events.proofs.Steps.Reservations.{for-of, for_lines-of, found-push, found_with, any-found}
 use Rattle.market_events.proofs.Values.Same.{same_id-self}
 use Rattle.market_events.proofs.Steps.Taken.{is_taken-push, is_taken-same, is_settled-is}
-use Rattle.market_events.proofs.Values.Lists.{or_false, or_true, or_parts, not_true, and_not, false_from, true_from, any_weaker, and_false}
-use Rattle.market_events.specs.WellFormed.{total_of}
-
--- a status of a checkout whose payment failed or was made
-abbrev pub is_settled_status : Option OrderStatus → Bool
-is_settled_status None = false
-is_settled_status (Some status.Invoiced) = false
-is_settled_status (Some status.Paid) = true
-is_settled_status (Some status.Shipped) = true
-is_settled_status (Some status.Delivered) = true
-is_settled_status (Some status.Cancelled) = true
-
--- a status of a checkout that was paid and not shipped
-abbrev pub is_paid_status : Option OrderStatus → Bool
-is_paid_status (Some status.Paid) = true
-is_paid_status other = false
+use Rattle.market_events.proofs.Values.Lists.{or_false, or_true, or_parts, not_true, and_not, false_from, true_from, any_weaker}
 
 -- a status of a checkout that was shipped
 abbrev pub is_shipped_status : Option OrderStatus → Bool
 is_shipped_status (Some status.Shipped) = true
 is_shipped_status (Some status.Delivered) = true
 is_shipped_status other = false
-
--- a payment failed or was made, where the status says so
-settled_by : (has failed done shipped paid : Bool) → (has ≡ false → failed ≡ false) → (has ≡ false → paid ≡ false) → (shipped ≡ true → paid ≡ true) → (has ≡ true → done ≡ true → shipped ≡ true) → (failed || paid) ≡ is_settled_status (status_by has failed done shipped paid)
-settled_by true true done shipped paid unfailed unpaid first delivered = refl
-settled_by true false true shipped paid unfailed unpaid first delivered = first (delivered refl refl)
-settled_by true false false true paid unfailed unpaid first delivered = first refl
-settled_by true false false false true unfailed unpaid first delivered = refl
-settled_by true false false false false unfailed unpaid first delivered = refl
-settled_by false failed done shipped paid unfailed unpaid first delivered = rw (unfailed refl, unpaid refl) refl
-
--- a payment was made and nothing shipped, where the status says so
-paid_by : (has failed done shipped paid : Bool) → (has ≡ false → paid ≡ false) → (failed ≡ true → paid ≡ false) → (has ≡ true → done ≡ true → shipped ≡ true) → (paid && not shipped) ≡ is_paid_status (status_by has failed done shipped paid)
-paid_by true true done shipped paid unpaid apart delivered = rw (apart refl)
-paid_by true false true shipped paid unpaid apart delivered = rw (delivered refl refl) (and_false paid)
-paid_by true false false true paid unpaid apart delivered = and_false paid
-paid_by true false false false true unpaid apart delivered = refl
-paid_by true false false false false unpaid apart delivered = refl
-paid_by false failed done shipped paid unpaid apart delivered = rw (unpaid refl)
 
 -- a checkout was shipped, where the status says so
 shipped_by : (has failed done shipped paid : Bool) → (has ≡ false → paid ≡ false) → (failed ≡ true → paid ≡ false) → (shipped ≡ true → paid ≡ true) → (has ≡ true → done ≡ true → shipped ≡ true) → shipped ≡ is_shipped_status (status_by has failed done shipped paid)
@@ -97,16 +64,6 @@ has_order-by_status steps id = either (list_any (is_of id) (checkouts_taken step
     either true false false true paid = refl
     either true false false false true = refl
     either true false false false false = refl
-
--- a checkout is settled, where its status says so
-pub is_settled-by_status : (steps : List Step) (id : RequestId) → OrderRun steps → is_settled steps id ≡ is_settled_status (order_status steps id)
-is_settled-by_status steps id run =
-    is_settled-is steps id
-    ∙ settled_by (list_any (is_of id) (checkouts_taken steps)) (is_taken fails steps id) (is_nil (open_lines steps id)) (is_taken ships steps id) (is_taken confirms steps id) (run.at id).unfailed (run.at id).unpaid (run.at id).paid_first (done-shipped steps id run)
-
--- a checkout can be shipped, where its status is paid
-pub ships_fit-by_status : (steps : List Step) (id : RequestId) → OrderRun steps → ships_fit steps id ≡ is_paid_status (order_status steps id)
-ships_fit-by_status steps id run = paid_by (list_any (is_of id) (checkouts_taken steps)) (is_taken fails steps id) (is_nil (open_lines steps id)) (is_taken ships steps id) (is_taken confirms steps id) (run.at id).unpaid (run.at id).apart (done-shipped steps id run)
 
 -- a checkout was shipped, where its status says so
 pub is_shipped-by_status : (steps : List Step) (id : RequestId) → OrderRun steps → is_taken ships steps id ≡ is_shipped_status (order_status steps id)
@@ -206,32 +163,6 @@ pub order_at-confirmed : (steps : List Step) (s : Step) (checkout : RequestId) (
     → (id : RequestId) → order_at (steps ++ s ∷ []) id ≡ (if same_id checkout id then Some (record { checkout = checkout; customer = customer; lines = lines }) else order_at steps id)
 order_at-confirmed steps s checkout customer lines is new id =
     ap (find (is_of id)) (checkouts_taken-confirmed steps s checkout customer lines is) ∙ found-push (checkouts_taken steps) (record { checkout = checkout; customer = customer; lines = lines }) new id
-
--- an order's total is that of its lines
-pub order_total-found : (steps : List Step) (id : RequestId) (r : Reservation) → OrderRun steps → order_at steps id ≡ Some r → order_total steps id ≡ total_of r.lines
-order_total-found steps id r run found = sum-found (λ (r : Reservation). total_of r.lines) id (checkouts_taken steps) r (run.once id) found
-
--- and 0 where there is no order
-pub order_total-none : (steps : List Step) (id : RequestId) → order_at steps id ≡ None → order_total steps id ≡ 0
-order_total-none steps id found = sum-none (λ (r : Reservation). total_of r.lines) id (checkouts_taken steps) (none-found id (checkouts_taken steps) found)
-
--- a confirmed checkout fits, where it has no order
-pub invoiced-fits : (steps : List Step) (checkout : RequestId) (customer : ℕ) (lines : List PricedLine) → order_fits steps (body.StockConfirmed checkout customer lines) ≡ not (is_some (order_status steps checkout))
-invoiced-fits steps checkout customer lines = ap not (has_order-by_status steps checkout)
-
--- a payment fits, where the order is of this customer with these lines and its status is not settled
-pub paid-fits : (steps : List Step) (checkout : RequestId) (customer : ℕ) (lines : List PricedLine) (total : ℕ) → OrderRun steps → order_fits steps (body.Confirmed checkout customer lines total) ≡ (is_customers_with customer lines (order_at steps checkout) && not (is_settled_status (order_status steps checkout)))
-paid-fits steps checkout customer lines total run =
-    λ i. any_for_lines-found checkout customer lines (checkouts_taken steps) (run.once checkout) i && not (is_settled-by_status steps checkout run i)
-
--- that there is no payment fits, where the order is of this customer and its status is not settled
-pub cancelled-fits : (steps : List Step) (checkout : RequestId) (customer : ℕ) (reason : PayRule) → OrderRun steps → order_fits steps (body.Failed checkout customer reason) ≡ (is_customers customer (order_at steps checkout) && not (is_settled_status (order_status steps checkout)))
-cancelled-fits steps checkout customer reason run =
-    λ i. any_for-found checkout customer (checkouts_taken steps) (run.once checkout) i && not (is_settled-by_status steps checkout run i)
-
--- a shipment fits, where the order's status is paid
-pub shipped-fits : (steps : List Step) (checkout : RequestId) → OrderRun steps → order_fits steps (body.Shipped checkout) ≡ is_paid_status (order_status steps checkout)
-shipped-fits steps checkout run = ships_fit-by_status steps checkout run
 
 -- an item fits, where its order was shipped and has its line
 pub item-fits : (steps : List Step) (item : Item) → OrderRun steps → order_item_fits steps item ≡ (is_shipped_status (order_status steps item.checkout) && found_with (order_at steps item.checkout) (λ r. is_line_of r.lines item))

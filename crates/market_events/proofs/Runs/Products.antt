@@ -1,7 +1,5 @@
 -- What holds of products after a run: the version that a product shows is how many changes it had.
-use Rattle.std.proofs.Common.{◌≡◌, ℕ, ◌+◌, ◌≤◌, Bool, true, false, List, [], ◌∷◌, ◌++◌, filter_map, length, if◌then◌else◌, ◌⊎◌, inl, inr, ◌<◌, ◌&&◌, le-leb, refl, ap, sym, ◌∙◌, arith, length-append}
-use Rattle.std.specs.List.{list_all}
-use Rattle.std.proofs.lemmas.List.Folds.{list_all-append}
+use Rattle.std.proofs.Common.{◌≡◌, ℕ, ◌+◌, ◌≤◌, Bool, true, false, List, [], ◌∷◌, ◌++◌, filter_map, length, if◌then◌else◌, ◌⊎◌, inl, inr, ◌&&◌, refl, ap, sym, ◌∙◌, arith, length-append}
 use Rattle.market_amounts.specs.declared.keys.ProductKey.{ProductKey}
 use Rattle.market_amounts.specs.declared.keys.RequestId.{RequestId}
 use Rattle.market_events.specs.declared.bodies.Body.{Body}
@@ -14,18 +12,16 @@ use Rattle.market_events.specs.declared.links.TheConstants.{PRODUCT_TO_STOCK}
 use Rattle.market_events.specs.declared.requests.Ask.{Ask}
 use Rattle.market_events.specs.declared.requests.Ask.TheVariants as ask
 use Rattle.market_events.specs.Copies.{copy_of, version_of}
-use Rattle.market_events.specs.Formed.{id_formed, cents_formed, key_formed, request_id_formed, change_formed, ask_formed, body_formed}
-use Rattle.market_events.specs.WellFormed.{id_max}
+use Rattle.market_events.specs.Formed.{cents_formed, key_formed, request_id_formed, change_formed, ask_formed, body_formed}
 use Rattle.market_events.specs.Looks.{look_version, is_live, can_change, look_after}
 use Rattle.market_events.specs.Products.{changes_made, create_rows, price_rows, delete_rows, product_asked, product_rows, product_sums}
 use Rattle.market_events.specs.Requests.{same_key}
-use Rattle.market_events.specs.Services.{Role, Follows, IsRunOf, most_steps}
+use Rattle.market_events.specs.Services.{Role, Follows, IsRunOf}
 use Rattle.market_events.specs.Steps.{Step, body_on}
 use Rattle.market_events.proofs.Values.Lists.{and_both}
-use Rattle.market_events.proofs.Runs.Looks.{look_formed, is_change_formed, copy_of-formed}
-use Rattle.market_events.proofs.Steps.Products.{answers-product, changes_made-changed, copy_made-same, copy_made-other, copy_made-changed, version_made-same, version_made-changed}
+use Rattle.market_events.proofs.Steps.Products.{answers-product, copy_made-same, copy_made-other, copy_made-changed, version_made-same, version_made-changed}
 use Rattle.market_events.proofs.Values.Same.{same_key-true}
-use Rattle.market_events.proofs.Steps.Taken.{changes_made-same, fits-parts, run_has}
+use Rattle.market_events.proofs.Steps.Taken.{fits-parts, run_has}
 
 -- what holds of products after a run
 pub record ProductRun (steps : List Step) : Type 0 where
@@ -131,25 +127,3 @@ version_of-look steps run key = (ProductRun-of steps run).versions key
 -- after a run, a product had no more changes than there were steps
 pub version_of-few : (steps : List Step) → IsRunOf Role.Product steps → (key : ProductKey) → version_of (changes_made steps) key ≤ length steps
 version_of-few steps run key = (ProductRun-of steps run).few key
-
--- the changes of a run are well formed
-record ChangesFormed (steps : List Step) : Type 0 where
-  run : ProductRun steps
-  formed : list_all is_change_formed (changes_made steps) ≡ true
-
--- a step that follows keeps the changes well formed
-changes_formed_keeps : (steps : List Step) (s : Step) → Follows Role.Product steps s → ChangesFormed steps → ChangesFormed (steps ++ s ∷ [])
-changes_formed_keeps steps s follows kept = record { run = ProductRun-keeps steps s follows kept.run; formed = elim (product_step steps s follows) [ inl none ↦ ap (list_all is_change_formed) (changes_made-same steps s none) ∙ kept.formed | inr one ↦ more one ] }
-  where
-    version : (n : ℕ) → n ≤ length steps → length steps < most_steps → id_formed (n + 1) ≡ true
-    version n few room = le-leb (n + 1) id_max (omega arith)
-
-    more : MakesChange steps s → list_all is_change_formed (changes_made (steps ++ s ∷ [])) ≡ true
-    more one =
-        ap (list_all is_change_formed) (changes_made-changed steps s one.key (version_of (changes_made steps) one.key + 1) one.change one.made)
-        ∙ list_all-append is_change_formed (changes_made steps) (record { key = one.key; version = version_of (changes_made steps) one.key + 1; change = one.change } ∷ [])
-        ∙ rw (kept.formed, version (version_of (changes_made steps) one.key) (kept.run.few one.key) (fits-parts Role.Product steps s.from s.body follows.fit).few, one.formed)
-
--- what a run of products shows is well formed
-pub copy_made-formed : (steps : List Step) → IsRunOf Role.Product steps → (key : ProductKey) → look_formed (copy_of (changes_made steps) key) ≡ true
-copy_made-formed steps run key = copy_of-formed (changes_made steps) key (run_has Role.Product ChangesFormed changes_formed_keeps (record { run = record { versions = λ key. refl; few = λ key. omega arith }; formed = refl }) steps run).formed

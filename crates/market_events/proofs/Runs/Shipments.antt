@@ -1,16 +1,15 @@
 -- What holds of shipments after a run, and their open packages after one more step.
-use Rattle.std.proofs.Common.{◌≡◌, ℕ, true, false, ◌||◌, not, List, [], ◌∷◌, ◌++◌, length, filter, filter_map, refl, ap, sym, ◌∙◌}
+use Rattle.std.proofs.Common.{◌≡◌, true, false, ◌||◌, List, [], ◌∷◌, ◌++◌, length, filter_map, refl, ap, sym, ◌∙◌}
 use Rattle.std.specs.List.{list_any, flat_map}
 use Rattle.std.proofs.lemmas.List.Folds.{list_any-append}
 use Rattle.market_amounts.specs.declared.keys.RequestId.{RequestId}
 use Rattle.market_events.specs.declared.bodies.Body.{Body}
 use Rattle.market_events.specs.declared.bodies.Body.TheVariants as body
-use Rattle.market_events.specs.declared.bodies.Item.{Item}
 use Rattle.market_events.specs.declared.bodies.PricedLine.{PricedLine}
 use Rattle.market_events.specs.declared.links.TheConstants.{SHIPMENT_TO_CUSTOMER}
 use Rattle.market_events.specs.declared.requests.Ask.{Ask}
 use Rattle.market_events.specs.declared.requests.Ask.TheVariants as ask
-use Rattle.market_events.specs.Orders.{items_in, is_item_of, is_taken}
+use Rattle.market_events.specs.Orders.{items_in, is_taken}
 use Rattle.market_events.specs.Requests.{same_id}
 use Rattle.market_events.specs.Services.{Role, Follows, IsRunOf, shipment_fits}
 use Rattle.market_events.specs.Shipments.{packages_in, packages, items_made, is_open, open_packages, oldest_of, delivered_of, deliver_rows, shipment_asked, shipment_rows, shipment_sums}
@@ -18,7 +17,7 @@ use Rattle.market_events.specs.Steps.{Step, Sending, body_on}
 use Rattle.market_events.specs.Stocks.{confirms}
 use Rattle.market_events.proofs.Values.Lists.{or_parts, any_filter-none}
 use Rattle.market_events.proofs.Runs.Orders.{is_item_for}
-use Rattle.market_events.proofs.Steps.Shipments.{packages-push, packages-same, items_of, items_made-push, items_made-same, open_packages-confirmed, open_packages-delivered, answers-shipment, deliver_rows-items, goes_with, undelivered}
+use Rattle.market_events.proofs.Steps.Shipments.{packages-push, packages-same, items_of, items_made-push, items_made-same, answers-shipment, deliver_rows-items, goes_with}
 use Rattle.market_events.proofs.Steps.Taken.{is_taken-push, fits-parts, run_has}
 
 -- what holds of shipments after a run: a checkout that was not paid has no package, and none of it was delivered
@@ -73,18 +72,3 @@ ShipmentRun-keeps steps s follows run =
 -- a run of shipments has it
 pub ShipmentRun-of : (steps : List Step) → IsRunOf Role.Shipment steps → ShipmentRun steps
 ShipmentRun-of steps run = run_has Role.Shipment ShipmentRun ShipmentRun-keeps (record { unpacked = λ id unpaid. refl; undelivered = λ id unpaid. refl }) steps run
-
--- open packages: those of a paid checkout are added
-pub open_packages-paid : (steps : List Step) (s : Step) (checkout : RequestId) (customer : ℕ) (lines : List PricedLine) (total : ℕ) → ShipmentRun steps → s.body ≡ body.Confirmed checkout customer lines total
-    → s.made ≡ shipment_rows (shipment_sums steps) (body.Confirmed checkout customer lines total) → is_taken confirms steps checkout ≡ false
-    → open_packages (steps ++ s ∷ []) ≡ open_packages steps ++ packages_in (body.Confirmed checkout customer lines total)
-open_packages-paid steps s checkout customer lines total run is made unpaid =
-    open_packages-confirmed steps s checkout customer lines total is (items_by s (shipment_rows (shipment_sums steps) (body.Confirmed checkout customer lines total)) made) (run.undelivered checkout unpaid)
-
--- open packages: a delivery leaves those that do not go with an oldest one
-pub open_packages-deliver : (steps : List Step) (s : Step) (id : RequestId) → s.body ≡ body.Asked (record { id = id; ask = ask.Deliver }) → s.made ≡ shipment_asked (shipment_sums steps) id ask.Deliver
-    → open_packages (steps ++ s ∷ []) ≡ filter (λ p. not (goes_with (oldest_of (open_packages steps)) p)) (open_packages steps)
-open_packages-deliver steps s id is made =
-    open_packages-delivered steps s (ap packages_in is)
-    ∙ ap (λ items. filter (λ (p : Item). not (list_any (is_item_of p.checkout p.key) items)) (open_packages steps)) (items_by s (deliver_rows id (delivered_of (open_packages steps)) (length (oldest_of (open_packages steps)))) made ∙ deliver_rows-items id (delivered_of (open_packages steps)) (length (oldest_of (open_packages steps))))
-    ∙ undelivered (open_packages steps)

@@ -1,8 +1,7 @@
 -- What a service stands for after one step more, and what follows from what it can take.
-use Rattle.std.proofs.Common.{◌≡◌, ◌<◌, true, ◌==◌, ◌&&◌, List, [], ◌∷◌, ◌++◌, length, nat_lt, Result, Ok, Err, OnOk, OnErr, refl, ap, ◌∙◌, subst, append_assoc}
+use Rattle.std.proofs.Common.{◌≡◌, ◌<◌, true, ◌==◌, ◌&&◌, List, [], ◌∷◌, ◌++◌, length, nat_lt, refl, subst, append_assoc}
 use Rattle.std.proofs.Math.Logic.{∥∥₁_elim}
-use Rattle.std.specs.List.{list_all}
-use Rattle.std.proofs.lemmas.Bool.{and_parts, and_from, ltb-true}
+use Rattle.std.proofs.lemmas.Bool.{and_parts, ltb-true}
 use Rattle.std.proofs.lemmas.List.{append-nil}
 use Rattle.market_events.specs.declared.bodies.Body.{Body}
 use Rattle.market_events.specs.declared.links.Link.{Link}
@@ -11,7 +10,7 @@ use Rattle.market_events.specs.Formed.{body_formed}
 use Rattle.market_events.specs.Links.{receiver_of}
 use Rattle.market_events.specs.Services.{Role, Follows, RunsFrom, IsRunOf, answers, fits, reactions, most_steps, node_of, role_fits}
 use Rattle.market_events.specs.Standing.{Stands, StandsForSome, CanTake, step_of, with_step}
-use Rattle.market_events.specs.Steps.{Step, Sending, taken_bodies}
+use Rattle.market_events.specs.Steps.{Step}
 
 -- the parts of the test whether an input fits
 pub record IsFit (role : Role) (steps : List Step) (from : Link) (b : Body) : Type 0 where
@@ -45,13 +44,6 @@ runs_push role before (t ∷ ts) s run next = (run.0, runs_push role (before ++ 
 pub is_run_push : (role : Role) (steps : List Step) (s : Step) → IsRunOf role steps → Follows role steps s → IsRunOf role (steps ++ s ∷ [])
 is_run_push role steps s run next = runs_push role [] steps s run next
 
--- the bodies of a run are well formed
-pub run_formed : (role : Role) (before steps : List Step) → RunsFrom role before steps → list_all body_formed (taken_bodies steps) ≡ true
-run_formed role before [] run = refl
-run_formed role before (s ∷ more) run =
-    and_from (body_formed s.body) (list_all body_formed (taken_bodies more)) (is_fit role before s.from s.body run.0.fit).formed
-    (run_formed role (before ++ s ∷ []) more run.1)
-
 -- an input that fits is answered
 pub reactions-fit : (role : Role) (steps : List Step) (from : Link) (b : Body) → fits role steps from b ≡ true → reactions role steps from b ≡ answers role steps from b
 unfolding reactions
@@ -60,13 +52,6 @@ reactions-fit role steps from b fit = rw fit refl
 -- the step of an input that fits follows
 pub follows_step_of : (role : Role) (steps : List Step) (from : Link) (b : Body) → fits role steps from b ≡ true → Follows role steps (step_of role steps from b)
 follows_step_of role steps from b fit = record { fit = fit; made = refl }
-
--- the step with what was made is that step
-pub step-made : (role : Role) (steps : List Step) (from : Link) (b : Body) (made : List Sending) → fits role steps from b ≡ true → made ≡ reactions role steps from b
-    → (let s : Step = record { from = from; body = b; made = made } in s ≡ step_of role steps from b)
-step-made role steps from b made fit e =
-    let step = λ (m : List Sending). let s : Step = record { from = from; body = b; made = m } in s in
-    ap step (e ∙ reactions-fit role steps from b fit)
 
 module _ {Kept : Type 0} (role : Role) (holds : Kept → List Step → Type 0) (old new : Kept) where
   -- what is kept after a step stands for the steps with it
@@ -77,28 +62,10 @@ module _ {Kept : Type 0} (role : Role) (holds : Kept → List Step → Type 0) (
     held = held;
   }
 
-  -- so it stands for some steps
-  pub some_on : (from : Link) (b : Body) → CanTake role holds old from b
-      → ((steps : List Step) → Stands role holds old steps → fits role steps from b ≡ true → holds new (with_step role steps from b))
-      → StandsForSome role holds new
-  some_on from b can held =
-      ∥∥₁_elim can squash₁ (λ it. ∣ (with_step role it.0 from b, stands_on it.0 from b it.1 it.2 (held it.0 it.1 it.2)) ∣₁)
-
   -- where it holds what the old did, it stands for what the old stood for
   pub stands_still : (steps : List Step) → ((steps : List Step) → holds old steps → holds new steps) → Stands role holds old steps → Stands role holds new steps
   stands_still steps held stands = record { run = stands.run; held = held steps stands.held }
 
-  pub some_still : StandsForSome role holds old → ((steps : List Step) → holds old steps → holds new steps) → StandsForSome role holds new
-  some_still some held = ∥∥₁_elim some squash₁ (λ it. ∣ (it.0, stands_still it.0 held it.1) ∣₁)
-
   -- what can take an input stands for some steps
   pub some_can_take : (from : Link) (b : Body) → CanTake role holds old from b → StandsForSome role holds old
   some_can_take from b can = ∥∥₁_elim can squash₁ (λ it. ∣ (it.0, it.1) ∣₁)
-
-  -- after `accept`, whatever it returned
-  pub some_after : {T E : Type 0} (r : Result T E) (from : Link) (b : Body) → CanTake role holds old from b
-      → OnOk r ((steps : List Step) → Stands role holds old steps → fits role steps from b ≡ true → holds new (with_step role steps from b))
-      → OnErr r ((steps : List Step) → holds old steps → holds new steps)
-      → StandsForSome role holds new
-  some_after (Ok x) from b can kept unchanged = some_on from b can kept
-  some_after (Err e) from b can kept unchanged = some_still (some_can_take from b can) unchanged

@@ -22,7 +22,7 @@ use Rattle.market_events.specs.Links.{cart_node}
 use Rattle.market_events.specs.Services.{Role}
 use Rattle.market_events.specs.Steps.{told, refused}
 use Rattle.market_events.specs.WellFormed.{most_lines, IsId, AreCents, IsKey, IsQuantity, AreLines, IsAsk, IsBody, IsEnding}
-use Rattle.market_events.proofs.Shapes.Joined.{on_service, no_answers, one_answer, one_reply}
+use Rattle.market_events.proofs.Shapes.Joined.{on_link, no_answers, one_answer, one_reply}
 
 -- what a copy shows is in range
 abbrev pub IsLook : Look → Type 0
@@ -63,7 +63,7 @@ module _ (s : CartSums) (looks : (key : ProductKey) → IsLook (s.look key)) (ba
       checks_out customer small (e ∷ es) held (Some key) is key_ok = one_reply Role.Cart (body.Asked request) request.id (reply.Undone (undone.Gone key)) refl refl ok.id key_ok
       checks_out customer small (e ∷ es) held None is key_ok =
           one_answer Role.Cart (body.Asked request) (CART_TO_STOCK, body.Reserve request.id customer (filter_map (priced s.look) (e ∷ es)))
-          (on_service Role.Cart (body.Asked request) 2 (body.Reserve request.id customer (filter_map (priced s.look) (e ∷ es))) (omega arith) refl refl
+          (on_link Role.Cart (body.Asked request) CART_TO_STOCK (body.Reserve request.id customer (filter_map (priced s.look) (e ∷ es))) (omega arith) refl refl tt
           (ok.id, small, held.lines (omega arith) is) refl)
 
       asked : (a : Ask) → IsAsk a → AreAnswers Role.Cart (body.Asked request) (cart_asked s request.id a)

@@ -1,14 +1,13 @@
--- What services make, put together of replies and of bodies on service links.
-use Rattle.std.proofs.Common.{◌≡◌, ℕ, ◌<◌, true, [], ◌∷◌, Some, IfSome, refl, arith}
+-- What services make, put together of replies and of bodies on links.
+use Rattle.std.proofs.Common.{◌≡◌, ◌<◌, true, [], ◌∷◌, Some, IfSome, refl, arith}
 use Rattle.std.proofs.Math.Nat.{mod-lt}
 use Rattle.market_amounts.specs.declared.keys.RequestId.{RequestId}
 use Rattle.market_events.specs.declared.bodies.Body.{Body}
-use Rattle.market_events.specs.declared.bodies.Body.TheVariants as body
-use Rattle.market_events.specs.declared.links.Link.TheVariants.{Service}
+use Rattle.market_events.specs.declared.links.Link.{Link}
 use Rattle.market_events.specs.declared.replies.Reply.{Reply}
 use Rattle.market_events.specs.AnswerShape.{id_in, GoesToLane, IsAnswer, AreAnswers}
-use Rattle.market_events.specs.Carried.{service_carries, can_reply}
-use Rattle.market_events.specs.Links.{sender_of}
+use Rattle.market_events.specs.Carried.{carries, can_reply}
+use Rattle.market_events.specs.Links.{IsLink, sender_of}
 use Rattle.market_events.specs.Services.{Role, node_of}
 use Rattle.market_events.specs.Steps.{Sending, told}
 use Rattle.market_events.specs.WellFormed.{IsRequestId, IsReply, IsBody}
@@ -24,24 +23,9 @@ node_small Role.Shipment = omega arith
 node_small Role.Customer = omega arith
 node_small Role.Seller = omega arith
 
--- what a service link carries is no reply
-untold : (node n : ℕ) (made : Body) → service_carries (Service n) made ≡ true → GoesToLane node (Service n) made
-untold node n (body.Told id reply) carried = cc
-untold node n (body.Changed key version change) carried = tt
-untold node n (body.Reserve checkout customer lines) carried = tt
-untold node n (body.ReserveFailed checkout key rule) carried = tt
-untold node n (body.StockConfirmed checkout customer lines) carried = tt
-untold node n (body.Invoice checkout customer lines total) carried = tt
-untold node n (body.Confirmed checkout customer lines total) carried = tt
-untold node n (body.Ended checkout ending) carried = tt
-untold node n (body.Failed checkout customer rule) carried = tt
-untold node n (body.Shipped checkout) carried = tt
-untold node n (body.Delivered items) carried = tt
-untold node n (body.Asked request) carried = tt
-
--- a body on a service link
-pub on_service : (role : Role) (input : Body) (n : ℕ) (made : Body) → n < 16 → sender_of (Service n) ≡ node_of role → service_carries (Service n) made ≡ true → IsBody made → IfSome (id_in made) (λ id. id_in input ≡ Some id) → IsAnswer role input (Service n, made)
-on_service role input n made small leaves carried formed named = record { link = small; leaves = leaves; carried = carried; formed = formed; named = named; lane = untold (node_of role) n made carried }
+-- a body on a link of the service
+pub on_link : (role : Role) (input : Body) (to : Link) (made : Body) → IsLink to → sender_of to ≡ node_of role → carries to made ≡ true → GoesToLane (node_of role) to made → IsBody made → IfSome (id_in made) (λ id. id_in input ≡ Some id) → IsAnswer role input (to, made)
+on_link role input to made small leaves can own formed named = record { link = small; leaves = leaves; carried = can; formed = formed; named = named; lane = own }
 
 -- a reply to the request, or to the checkout, that the input names
 pub to_lane : (role : Role) (input : Body) (id : RequestId) (r : Reply) → id_in input ≡ Some id → can_reply (node_of role) r ≡ true → IsRequestId id → IsReply r → IsAnswer role input (told (node_of role) id r)

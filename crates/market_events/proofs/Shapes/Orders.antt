@@ -4,7 +4,7 @@ use Rattle.market_amounts.specs.declared.keys.RequestId.{RequestId}
 use Rattle.market_events.specs.declared.bodies.Body.{Body}
 use Rattle.market_events.specs.declared.bodies.Body.TheVariants as body
 use Rattle.market_events.specs.declared.bodies.Ending.TheVariants as ending
-use Rattle.market_events.specs.declared.links.TheConstants.{ORDER_TO_CART}
+use Rattle.market_events.specs.declared.links.TheConstants.{ORDER_TO_CART, ORDER_TO_SELLER, ORDER_TO_PAYMENT}
 use Rattle.market_events.specs.declared.replies.OrderStatus.{OrderStatus}
 use Rattle.market_events.specs.declared.replies.Reply.TheVariants as reply
 use Rattle.market_events.specs.declared.replies.Rule.TheVariants as rule
@@ -14,7 +14,7 @@ use Rattle.market_events.specs.AnswerShape.{AreAnswers}
 use Rattle.market_events.specs.Orders.{OrderSums, order_reply_rows, order_asked, order_rows}
 use Rattle.market_events.specs.Services.{Role}
 use Rattle.market_events.specs.WellFormed.{total_max, total_of, IsBody}
-use Rattle.market_events.proofs.Shapes.Joined.{on_service, no_answers, one_answer, one_reply}
+use Rattle.market_events.proofs.Shapes.Joined.{on_link, no_answers, one_answer, one_reply}
 
 -- the order service answers in shape, where its totals are in range
 pub order_answers : (s : OrderSums) → ((id : RequestId) → s.total id ≤ total_max) → (input : Body) → IsBody input → AreAnswers Role.Order input (order_rows s input)
@@ -31,14 +31,14 @@ order_answers s few (body.StockConfirmed checkout customer lines) ok = record {
   few = omega arith;
   apart = ((refl, tt), (tt, tt));
   each = (
-    on_service Role.Order (body.StockConfirmed checkout customer lines) 6 (body.Invoice checkout customer lines (total_of lines)) (omega arith) refl refl (ok.0, ok.1, ok.2, refl) refl,
-    (on_service Role.Order (body.StockConfirmed checkout customer lines) 5 (body.Invoice checkout customer lines (total_of lines)) (omega arith) refl refl (ok.0, ok.1, ok.2, refl) refl, tt),
+    on_link Role.Order (body.StockConfirmed checkout customer lines) ORDER_TO_SELLER (body.Invoice checkout customer lines (total_of lines)) (omega arith) refl refl tt (ok.0, ok.1, ok.2, refl) refl,
+    (on_link Role.Order (body.StockConfirmed checkout customer lines) ORDER_TO_PAYMENT (body.Invoice checkout customer lines (total_of lines)) (omega arith) refl refl tt (ok.0, ok.1, ok.2, refl) refl, tt),
   );
 }
 order_answers s few (body.Failed checkout customer why) ok =
     one_answer Role.Order (body.Failed checkout customer why) (ORDER_TO_CART, body.Ended checkout (ending.Undone why))
-    (on_service Role.Order (body.Failed checkout customer why) 7 (body.Ended checkout (ending.Undone why)) (omega arith) refl refl (ok.0, tt) refl)
+    (on_link Role.Order (body.Failed checkout customer why) ORDER_TO_CART (body.Ended checkout (ending.Undone why)) (omega arith) refl refl tt (ok.0, tt) refl)
 order_answers s few (body.Shipped checkout) ok =
     one_answer Role.Order (body.Shipped checkout) (ORDER_TO_CART, body.Ended checkout (ending.Whole (s.total checkout)))
-    (on_service Role.Order (body.Shipped checkout) 7 (body.Ended checkout (ending.Whole (s.total checkout))) (omega arith) refl refl (ok, few checkout) refl)
+    (on_link Role.Order (body.Shipped checkout) ORDER_TO_CART (body.Ended checkout (ending.Whole (s.total checkout))) (omega arith) refl refl tt (ok, few checkout) refl)
 order_answers s few other ok = no_answers Role.Order other

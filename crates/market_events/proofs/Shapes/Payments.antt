@@ -1,22 +1,23 @@
 -- The payment service's answers have the shape of answers.
-use Rattle.std.proofs.Common.{◌≡◌, ℕ, ◌+◌, ◌<◌, Bool, true, false, nat_le, cond, List, Option, Some, None, refl, arith}
+use Rattle.std.proofs.Common.{◌≡◌, ℕ, ◌+◌, Bool, true, false, nat_le, cond, List, Option, Some, None, refl, arith}
 use Rattle.market_amounts.specs.declared.keys.RequestId.{RequestId}
 use Rattle.market_events.specs.declared.bodies.Body.{Body}
 use Rattle.market_events.specs.declared.bodies.Body.TheVariants as body
 use Rattle.market_events.specs.declared.bodies.PayRule.{PayRule}
 use Rattle.market_events.specs.declared.bodies.PayRule.TheVariants as pay
 use Rattle.market_events.specs.declared.bodies.PricedLine.{PricedLine}
-use Rattle.market_events.specs.declared.links.Link.TheVariants.{Service}
+use Rattle.market_events.specs.declared.links.Link.{Link}
+use Rattle.market_events.specs.declared.links.TheConstants.{PAYMENT_TO_STOCK, PAYMENT_TO_ORDER, PAYMENT_TO_SHIPMENT, PAYMENT_TO_CUSTOMER, PAYMENT_TO_SELLER}
 use Rattle.market_events.specs.declared.replies.Reply.TheVariants as reply
 use Rattle.market_events.specs.declared.requests.Ask.{Ask}
 use Rattle.market_events.specs.declared.requests.Ask.TheVariants as ask
 use Rattle.market_events.specs.AnswerShape.{IsAnswer, AreAnswers}
-use Rattle.market_events.specs.Carried.{service_carries}
-use Rattle.market_events.specs.Links.{payment_node, sender_of}
+use Rattle.market_events.specs.Carried.{carries}
+use Rattle.market_events.specs.Links.{IsLink, payment_node, sender_of}
 use Rattle.market_events.specs.Payments.{PaymentSums, confirmed_rows, failed_rows, invoice_rows, payment_asked, payment_rows}
 use Rattle.market_events.specs.Services.{Role}
 use Rattle.market_events.specs.WellFormed.{IsAsk, IsBody}
-use Rattle.market_events.proofs.Shapes.Joined.{on_service, no_answers, one_reply}
+use Rattle.market_events.proofs.Shapes.Joined.{on_link, no_answers, one_reply}
 
 module _ (checkout : RequestId) (customer : ℕ) (lines : List PricedLine) (total : ℕ) (ok : IsBody (body.Invoice checkout customer lines total)) where
   -- the payment, on five links
@@ -24,22 +25,22 @@ module _ (checkout : RequestId) (customer : ℕ) (lines : List PricedLine) (tota
   paid = record {
     few = omega arith;
     apart = ((refl, (refl, (refl, (refl, tt)))), ((refl, (refl, (refl, tt))), ((refl, (refl, tt)), ((refl, tt), (tt, tt)))));
-    each = (on 8 (omega arith) refl refl, (on 11 (omega arith) refl refl, (on 12 (omega arith) refl refl, (on 9 (omega arith) refl refl, (on 10 (omega arith) refl refl, tt)))));
+    each = (on PAYMENT_TO_STOCK (omega arith) refl refl, (on PAYMENT_TO_CUSTOMER (omega arith) refl refl, (on PAYMENT_TO_SELLER (omega arith) refl refl, (on PAYMENT_TO_ORDER (omega arith) refl refl, (on PAYMENT_TO_SHIPMENT (omega arith) refl refl, tt)))));
   }
     where
-      on : (n : ℕ) → n < 16 → sender_of (Service n) ≡ payment_node → service_carries (Service n) (body.Confirmed checkout customer lines total) ≡ true → IsAnswer Role.Payment (body.Invoice checkout customer lines total) (Service n, body.Confirmed checkout customer lines total)
-      on n small leaves carried = on_service Role.Payment (body.Invoice checkout customer lines total) n (body.Confirmed checkout customer lines total) small leaves carried ok refl
+      on : (to : Link) → IsLink to → sender_of to ≡ payment_node → carries to (body.Confirmed checkout customer lines total) ≡ true → IsAnswer Role.Payment (body.Invoice checkout customer lines total) (to, body.Confirmed checkout customer lines total)
+      on to small leaves can = on_link Role.Payment (body.Invoice checkout customer lines total) to (body.Confirmed checkout customer lines total) small leaves can tt ok refl
 
   -- that there is none, on four
   unpaid : (why : PayRule) → AreAnswers Role.Payment (body.Invoice checkout customer lines total) (failed_rows (body.Failed checkout customer why))
   unpaid why = record {
     few = omega arith;
     apart = ((refl, (refl, (refl, tt))), ((refl, (refl, tt)), ((refl, tt), (tt, tt))));
-    each = (on 8 (omega arith) refl refl, (on 11 (omega arith) refl refl, (on 12 (omega arith) refl refl, (on 9 (omega arith) refl refl, tt))));
+    each = (on PAYMENT_TO_STOCK (omega arith) refl refl, (on PAYMENT_TO_CUSTOMER (omega arith) refl refl, (on PAYMENT_TO_SELLER (omega arith) refl refl, (on PAYMENT_TO_ORDER (omega arith) refl refl, tt))));
   }
     where
-      on : (n : ℕ) → n < 16 → sender_of (Service n) ≡ payment_node → service_carries (Service n) (body.Failed checkout customer why) ≡ true → IsAnswer Role.Payment (body.Invoice checkout customer lines total) (Service n, body.Failed checkout customer why)
-      on n small leaves carried = on_service Role.Payment (body.Invoice checkout customer lines total) n (body.Failed checkout customer why) small leaves carried (ok.0, ok.1) refl
+      on : (to : Link) → IsLink to → sender_of to ≡ payment_node → carries to (body.Failed checkout customer why) ≡ true → IsAnswer Role.Payment (body.Invoice checkout customer lines total) (to, body.Failed checkout customer why)
+      on to small leaves can = on_link Role.Payment (body.Invoice checkout customer lines total) to (body.Failed checkout customer why) small leaves can tt (ok.0, ok.1) refl
 
   -- one or the other
   invoiced : (limit : Option ℕ) (before : ℕ) → AreAnswers Role.Payment (body.Invoice checkout customer lines total) (invoice_rows checkout customer lines total limit before)

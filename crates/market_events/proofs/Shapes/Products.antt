@@ -8,6 +8,7 @@ use Rattle.market_events.specs.declared.changes.Change.{Change}
 use Rattle.market_events.specs.declared.changes.Change.TheVariants as change
 use Rattle.market_events.specs.declared.changes.Look.{Look}
 use Rattle.market_events.specs.declared.changes.Look.TheVariants.{Unknown, Gone, Live}
+use Rattle.market_events.specs.declared.links.TheConstants.{PRODUCT_TO_STOCK, PRODUCT_TO_CART}
 use Rattle.market_events.specs.declared.replies.Reply.{Reply}
 use Rattle.market_events.specs.declared.replies.Reply.TheVariants as reply
 use Rattle.market_events.specs.declared.replies.Rule.TheVariants as rule
@@ -20,7 +21,7 @@ use Rattle.market_events.specs.Products.{ProductSums, changed, create_rows, pric
 use Rattle.market_events.specs.Services.{Role}
 use Rattle.market_events.specs.Steps.{told}
 use Rattle.market_events.specs.WellFormed.{id_max, IsId, IsKey, IsRequestId, IsChange, IsAsk, IsReply, IsBody}
-use Rattle.market_events.proofs.Shapes.Joined.{on_service, to_lane, no_answers, one_reply}
+use Rattle.market_events.proofs.Shapes.Joined.{on_link, to_lane, no_answers, one_reply}
 
 module _ (s : ProductSums) (few : (key : ProductKey) → s.version key < id_max) where
   -- the next version is in range
@@ -34,9 +35,9 @@ module _ (s : ProductSums) (few : (key : ProductKey) → s.version key < id_max)
       few = omega arith;
       apart = ((refl, (refl, tt)), ((refl, tt), (tt, tt)));
       each = (
-        on_service Role.Product input 1 (body.Changed key (s.version key + 1) c) (omega arith) refl refl (key_ok, next key, change_ok) tt,
+        on_link Role.Product input PRODUCT_TO_STOCK (body.Changed key (s.version key + 1) c) (omega arith) refl refl tt (key_ok, next key, change_ok) tt,
         (
-          on_service Role.Product input 0 (body.Changed key (s.version key + 1) c) (omega arith) refl refl (key_ok, next key, change_ok) tt,
+          on_link Role.Product input PRODUCT_TO_CART (body.Changed key (s.version key + 1) c) (omega arith) refl refl tt (key_ok, next key, change_ok) tt,
           (to_lane Role.Product input id r same can id_ok reply_ok, tt),
         ),
       );

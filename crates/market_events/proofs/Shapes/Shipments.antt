@@ -3,6 +3,7 @@ use Rattle.std.proofs.Common.{ℕ, ◌≤◌, List, [], ◌∷◌, length, refl,
 use Rattle.market_events.specs.declared.bodies.Body.{Body}
 use Rattle.market_events.specs.declared.bodies.Body.TheVariants as body
 use Rattle.market_events.specs.declared.bodies.Item.{Item}
+use Rattle.market_events.specs.declared.links.TheConstants.{SHIPMENT_TO_CUSTOMER, SHIPMENT_TO_SELLER, SHIPMENT_TO_ORDER}
 use Rattle.market_events.specs.declared.replies.Reply.TheVariants as reply
 use Rattle.market_events.specs.declared.requests.Ask.{Ask}
 use Rattle.market_events.specs.declared.requests.Ask.TheVariants as ask
@@ -10,7 +11,7 @@ use Rattle.market_events.specs.AnswerShape.{AreAnswers}
 use Rattle.market_events.specs.Services.{Role}
 use Rattle.market_events.specs.Shipments.{ShipmentSums, most_sellers, oldest_of, delivered_of, deliver_rows, shipment_asked, shipment_rows}
 use Rattle.market_events.specs.WellFormed.{most_items, AreItems, IsBody}
-use Rattle.market_events.proofs.Shapes.Joined.{on_service, to_lane, no_answers, one_reply}
+use Rattle.market_events.proofs.Shapes.Joined.{on_link, to_lane, no_answers, one_reply}
 
 -- what a delivery has: few sellers, and few packages, which are well formed
 pub record IsDelivery (waiting : List Item) : Type 0 where
@@ -30,11 +31,11 @@ shipment_answers s delivery (body.Asked request) ok = asked request.ask
           few = omega arith;
           apart = ((refl, (refl, (refl, tt))), ((refl, (refl, tt)), ((refl, tt), (tt, tt))));
           each = (
-            on_service Role.Shipment (body.Asked request) 15 (body.Delivered (i ∷ more)) (omega arith) refl refl made tt,
+            on_link Role.Shipment (body.Asked request) SHIPMENT_TO_CUSTOMER (body.Delivered (i ∷ more)) (omega arith) refl refl tt made tt,
             (
-              on_service Role.Shipment (body.Asked request) 14 (body.Delivered (i ∷ more)) (omega arith) refl refl made tt,
+              on_link Role.Shipment (body.Asked request) SHIPMENT_TO_SELLER (body.Delivered (i ∷ more)) (omega arith) refl refl tt made tt,
               (
-                on_service Role.Shipment (body.Asked request) 13 (body.Delivered (i ∷ more)) (omega arith) refl refl made tt,
+                on_link Role.Shipment (body.Asked request) SHIPMENT_TO_ORDER (body.Delivered (i ∷ more)) (omega arith) refl refl tt made tt,
                 (to_lane Role.Shipment (body.Asked request) request.id (reply.Delivered sellers (length (i ∷ more))) refl refl ok.id (omega (arith, few), omega (arith, most)), tt),
               ),
             ),
@@ -48,8 +49,8 @@ shipment_answers s delivery (body.Confirmed checkout customer lines total) ok = 
   few = omega arith;
   apart = ((refl, tt), (tt, tt));
   each = (
-    on_service Role.Shipment (body.Confirmed checkout customer lines total) 14 (body.Shipped checkout) (omega arith) refl refl ok.0 refl,
-    (on_service Role.Shipment (body.Confirmed checkout customer lines total) 13 (body.Shipped checkout) (omega arith) refl refl ok.0 refl, tt),
+    on_link Role.Shipment (body.Confirmed checkout customer lines total) SHIPMENT_TO_SELLER (body.Shipped checkout) (omega arith) refl refl tt ok.0 refl,
+    (on_link Role.Shipment (body.Confirmed checkout customer lines total) SHIPMENT_TO_ORDER (body.Shipped checkout) (omega arith) refl refl tt ok.0 refl, tt),
   );
 }
 shipment_answers s delivery other ok = no_answers Role.Shipment other

@@ -22,7 +22,7 @@ use Rattle.market_events.specs.Services.{Role}
 use Rattle.market_events.specs.Steps.{told, refused}
 use Rattle.market_events.specs.Stocks.{StockSums, stock_rows, level_rows, stock_asked, line_refusal, first_some, reserve_rows, stock_taken_rows}
 use Rattle.market_events.specs.WellFormed.{pieces_max, ArePieces, IsKey, IsLine, IsBody}
-use Rattle.market_events.proofs.Shapes.Joined.{on_service, no_answers, one_answer, one_reply}
+use Rattle.market_events.proofs.Shapes.Joined.{on_link, no_answers, one_answer, one_reply}
 
 -- a refused line's product is that of a line
 refusal_key : (s : StockSums) (lines : List PricedLine) → AllByRecursion IsLine lines → IfSome (first_some (line_refusal s) lines) (λ (r : ProductKey × StockRule). IsKey r.0)
@@ -66,8 +66,8 @@ module _ (s : StockSums) (here_few : (key : ProductKey) → ArePieces (s.on_hand
       by_refusal : (o : Option (ProductKey × StockRule)) → IfSome o (λ (r : ProductKey × StockRule). IsKey r.0) → AreAnswers Role.Stock (body.Reserve checkout customer lines) (reserve_rows checkout customer lines o)
       by_refusal None key_ok =
           one_answer Role.Stock (body.Reserve checkout customer lines) (STOCK_TO_ORDER, body.StockConfirmed checkout customer lines)
-          (on_service Role.Stock (body.Reserve checkout customer lines) 4 (body.StockConfirmed checkout customer lines) (omega arith) refl refl ok refl)
+          (on_link Role.Stock (body.Reserve checkout customer lines) STOCK_TO_ORDER (body.StockConfirmed checkout customer lines) (omega arith) refl refl tt ok refl)
       by_refusal (Some r) key_ok =
           one_answer Role.Stock (body.Reserve checkout customer lines) (STOCK_TO_CART, body.ReserveFailed checkout r.0 r.1)
-          (on_service Role.Stock (body.Reserve checkout customer lines) 3 (body.ReserveFailed checkout r.0 r.1) (omega arith) refl refl (ok.0, key_ok) refl)
+          (on_link Role.Stock (body.Reserve checkout customer lines) STOCK_TO_CART (body.ReserveFailed checkout r.0 r.1) (omega arith) refl refl tt (ok.0, key_ok) refl)
   stock_answers other ok = no_answers Role.Stock other

@@ -59,10 +59,6 @@ use Rattle.market_events.proofs.Runs.Totals.{found-passes, order_total-le}
 abbrev pub are_formed : List Sending → Bool
 are_formed made = list_all (λ (m : Sending). body_formed m.1) made
 
--- a reply is told, where it and its id are well formed
-told_formed : (service : ℕ) (id : RequestId) (r : Reply) → request_id_formed id ≡ true → reply_formed r ≡ true → are_formed (told service id r ∷ []) ≡ true
-told_formed service id r known formed = rw (known, formed)
-
 -- the lines of a well-formed list are well formed
 lines_all : (lines : List PricedLine) → lines_formed lines ≡ true → list_all line_formed lines ≡ true
 lines_all lines formed =

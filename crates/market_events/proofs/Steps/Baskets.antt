@@ -1,9 +1,7 @@
 -- The basket of a customer as a list by rising key, and what one more step makes of it.
 use Rattle.std.proofs.Common.{◌≡◌, ℕ, Bool, true, false, cond, ◌&&◌, ◌||◌, ◌==◌, not, T, List, [], ◌∷◌, ◌++◌, Option, Some, None, filter_map, fold, if◌then◌else◌, is_some, refl, ap, sym, ◌∙◌, eq-eqb}
 use Rattle.std.specs.List.{list_any, cons_option}
-use Rattle.std.specs.List.Sorted.{IsStrictlySortedBy}
-use Rattle.std.specs.Map.{keys_of, lookup}
-use Rattle.std.specs.BTreeMap.{is_at, insert_entry}
+use Rattle.std.specs.BTreeMap.{insert_entry}
 use Rattle.std.specs.Option.{option_or}
 use Rattle.std.specs.FinMap.Entries as entries
 use Rattle.market_amounts.specs.declared.keys.ProductKey.{ProductKey}
@@ -17,7 +15,7 @@ use Rattle.market_events.specs.Copies.{last_some}
 use Rattle.market_events.specs.Requests.{same_key}
 use Rattle.market_events.specs.Steps.{Step, taken_bodies, key_cmp}
 use Rattle.market_events.proofs.Steps.Carts.{basket_at-push-same, basket_at-line, basket_at-remove, basket_at-checkout, basket_at-other, body_sets_basket}
-use Rattle.market_events.proofs.Values.Keys.{eq_by_key_cmp, key_cmp-Equal, key_cmp_total, find-lookup, put-insert_entry, is_sorted-of}
+use Rattle.market_events.proofs.Values.Keys.{eq_by_key_cmp, key_cmp-Equal, key_cmp_total, put-insert_entry}
 use Rattle.market_events.proofs.Values.Same.{same_key-true, same_key-swap}
 use Rattle.market_events.proofs.Values.Lists.{or_right}
 
@@ -122,10 +120,6 @@ is_sorted-basket_of steps customer = put_all-sorted [] (filter_map (λ key. with
 pub basket_of-is : (steps : List Step) (customer : ℕ) (es : List (ProductKey × Held)) → T (entries.is_sorted key_cmp es) → ((key : ProductKey) → entries.find key_cmp key es ≡ basket_at steps customer key) → es ≡ basket_of steps customer
 basket_of-is steps customer es sorted has =
     entries.same_entries key_cmp key_cmp_total key_cmp-Equal es (basket_of steps customer) sorted (is_sorted-basket_of steps customer) (λ key. has key ∙ sym (find-basket_of steps customer key))
-
--- the same of a map's entries
-pub basket_of-entries : (steps : List Step) (customer : ℕ) (es : List (ProductKey × Held)) → IsStrictlySortedBy key_cmp (keys_of es) → ((key : ProductKey) → lookup (is_at (key_cmp key)) es ≡ basket_at steps customer key) → es ≡ basket_of steps customer
-basket_of-entries steps customer es sorted has = basket_of-is steps customer es (is_sorted-of key_cmp es sorted) (λ key. find-lookup key_cmp key es ∙ has key)
 
 -- the basket of no product is empty
 pub basket_of-none : (steps : List Step) (customer : ℕ) → ((key : ProductKey) → basket_at steps customer key ≡ None) → basket_of steps customer ≡ []

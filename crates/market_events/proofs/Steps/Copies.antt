@@ -54,9 +54,3 @@ copy_of-push-same changes c key same can =
 -- a product has one change more for each change of it
 pub version_of-push : (changes : List ProductChange) (c : ProductChange) (key : ProductKey) → version_of (changes ++ c ∷ []) key ≡ version_of changes key + (if same_key key c.key then 1 else 0)
 version_of-push changes c key = sum_by-append _ changes (c ∷ []) ∙ omega arith
-
-pub version_of-push-same : (changes : List ProductChange) (c : ProductChange) (key : ProductKey) → same_key key c.key ≡ true → version_of (changes ++ c ∷ []) key ≡ version_of changes key + 1
-version_of-push-same changes c key same = version_of-push changes c key ∙ rw same
-
-pub version_of-push-other : (changes : List ProductChange) (c : ProductChange) (key : ProductKey) → same_key key c.key ≡ false → version_of (changes ++ c ∷ []) key ≡ version_of changes key
-version_of-push-other changes c key other = version_of-push changes c key ∙ rw other (omega arith)

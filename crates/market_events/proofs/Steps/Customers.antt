@@ -52,14 +52,6 @@ items_for customer items = count_by (λ (i : Item). i.customer == customer) item
 pub delivered_count-push : (steps : List Step) (s : Step) (customer : ℕ) → delivered_count (steps ++ s ∷ []) customer ≡ delivered_count steps customer + items_for customer (items_in s.body)
 delivered_count-push steps s customer = ap (items_for customer) (items_taken-push steps s) ∙ sum_by-append (λ (i : Item). cond (i.customer == customer) 1 0) (items_taken steps) (items_in s.body)
 
--- delivered: any other step
-pub delivered_count-same : (steps : List Step) (s : Step) (customer : ℕ) → items_in s.body ≡ [] → delivered_count (steps ++ s ∷ []) customer ≡ delivered_count steps customer
-delivered_count-same steps s customer none = delivered_count-push steps s customer ∙ rw none (omega arith)
-
--- delivered: a delivery was taken
-pub delivered_count-delivered : (steps : List Step) (s : Step) (items : List Item) → s.body ≡ body.Delivered items → (customer : ℕ) → delivered_count (steps ++ s ∷ []) customer ≡ delivered_count steps customer + items_for customer items
-delivered_count-delivered steps s items is customer = delivered_count-push steps s customer ∙ ap (λ b. delivered_count steps customer + items_for customer (items_in b)) is
-
 -- what customers answer
 pub answers-customer : (steps : List Step) (from : Link) (b : Body) → answers Role.Customer steps from b ≡ customer_rows (customer_sums steps) b
 unfolding answers

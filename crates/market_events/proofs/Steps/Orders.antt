@@ -3,17 +3,16 @@ use Rattle.std.proofs.Common.{◌≡◌, ℕ, ◌+◌, Bool, true, false, ◌||�
 use Rattle.std.specs.List.{list_any, flat_map}
 use Rattle.std.proofs.lemmas.List.Folds.{list_any-append}
 use Rattle.std.proofs.lemmas.List.Sums.{sum_by_push}
-use Rattle.market_amounts.specs.Amounts.{amount_of}
 use Rattle.market_amounts.specs.declared.keys.RequestId.{RequestId}
 use Rattle.market_events.specs.declared.bodies.Body.TheVariants as body
 use Rattle.market_events.specs.declared.bodies.Item.{Item}
 use Rattle.market_events.specs.declared.bodies.PricedLine.{PricedLine}
 use Rattle.market_events.specs.declared.replies.OrderStatus.{OrderStatus}
 use Rattle.market_events.specs.declared.replies.OrderStatus.TheVariants as status
-use Rattle.market_events.specs.Orders.{checkouts_taken, is_of, order_total, items_in, items_taken, same_item, item_of, is_left, lines_left, open_lines, ships, is_taken, is_nil, order_status}
+use Rattle.market_events.specs.Orders.{checkouts_taken, is_of, order_total, items_in, items_taken, same_item, item_of, is_left, lines_left, open_lines}
 use Rattle.market_events.specs.Requests.{same_id}
 use Rattle.market_events.specs.Steps.{Step, taken_bodies}
-use Rattle.market_events.specs.Stocks.{Reservation, reservation_in, confirms, fails}
+use Rattle.market_events.specs.Stocks.{Reservation, reservation_in}
 use Rattle.market_events.specs.WellFormed.{total_of}
 use Rattle.market_events.proofs.Steps.Reservations.{sum-none, lines-none}
 use Rattle.market_events.proofs.Values.Same.{same_id-self, same_id-true}
@@ -144,12 +143,3 @@ status_by has failed done shipped paid =
     else if shipped then Some status.Shipped
     else if paid then Some status.Paid
     else Some status.Invoiced
-
--- the status is given by these five facts
-pub order_status-is : (steps : List Step) (id : RequestId) → order_status steps id ≡ status_by (list_any (is_of id) (checkouts_taken steps)) (is_taken fails steps id) (is_nil (open_lines steps id)) (is_taken ships steps id) (is_taken confirms steps id)
-order_status-is steps id = refl
-
--- the total of one more line
-pub total_of-push : (lines : List PricedLine) (line : PricedLine) → total_of (lines ++ line ∷ []) ≡ total_of lines + amount_of line.price line.quantity line.freight line.voucher
-total_of-push [] line = omega arith
-total_of-push (l ∷ lines) line = omega (arith, total_of-push lines line)

@@ -37,7 +37,7 @@ limit_of-card steps s id c limit is customer = limit_of-push steps s customer �
 pub spent-push : (steps : List Step) (s : Step) (customer : ℕ) → spent (steps ++ s ∷ []) customer ≡ spent steps customer + sum_by (total_paid customer) (filter_map (body_on PAYMENT_TO_STOCK) s.made)
 spent-push steps s customer = ap (sum_by (total_paid customer)) (made_on-push PAYMENT_TO_STOCK steps s) ∙ sum_by-append (total_paid customer) (made_on PAYMENT_TO_STOCK steps) (filter_map (body_on PAYMENT_TO_STOCK) s.made)
 
--- spent: a step that makes nothing on link 8
+-- spent: a step that makes nothing for stock
 pub spent-same : (steps : List Step) (s : Step) (customer : ℕ) → filter_map (body_on PAYMENT_TO_STOCK) s.made ≡ [] → spent (steps ++ s ∷ []) customer ≡ spent steps customer
 spent-same steps s customer none = spent-push steps s customer ∙ rw none (omega arith)
 

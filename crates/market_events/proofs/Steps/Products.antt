@@ -1,29 +1,23 @@
 -- What one more step makes of what products show and of their versions.
 use Rattle.std.proofs.Common.{◌≡◌, ℕ, ◌+◌, true, false, List, [], ◌∷◌, ◌++◌, filter_map, if◌then◌else◌, refl, ap, ◌∙◌}
 use Rattle.market_amounts.specs.declared.keys.ProductKey.{ProductKey}
-use Rattle.market_amounts.specs.declared.keys.RequestId.{RequestId}
 use Rattle.market_events.specs.declared.bodies.Body.{Body}
 use Rattle.market_events.specs.declared.bodies.Body.TheVariants as body
 use Rattle.market_events.specs.declared.changes.Change.{Change}
 use Rattle.market_events.specs.declared.links.Link.{Link}
 use Rattle.market_events.specs.declared.links.TheConstants.{PRODUCT_TO_STOCK}
-use Rattle.market_events.specs.declared.replies.Reply.{Reply}
 use Rattle.market_events.specs.Copies.{copy_of, version_of}
 use Rattle.market_events.specs.Looks.{can_change, look_after}
-use Rattle.market_events.specs.Products.{change_in, changes_made, changed, product_sums, product_rows}
+use Rattle.market_events.specs.Products.{change_in, changes_made, product_sums, product_rows}
 use Rattle.market_events.specs.Requests.{same_key}
 use Rattle.market_events.specs.Services.{Role, answers}
 use Rattle.market_events.specs.Steps.{Step, body_on}
 use Rattle.market_events.proofs.Steps.Copies.{copy_of-push-same, copy_of-push-other, version_of-push}
 use Rattle.market_events.proofs.Steps.Taken.{changes_made-push, changes_made-same}
 
--- changes: the step made one on link 1
+-- changes: the step made one for stock
 pub changes_made-changed : (steps : List Step) (s : Step) (k : ProductKey) (version : ℕ) (change : Change) → filter_map (body_on PRODUCT_TO_STOCK) s.made ≡ body.Changed k version change ∷ [] → changes_made (steps ++ s ∷ []) ≡ changes_made steps ++ record { key = k; version = version; change = change } ∷ []
 changes_made-changed steps s k version change made = changes_made-push steps s ∙ ap (λ bs. changes_made steps ++ filter_map change_in bs) made
-
--- what a change to stock and to the cart makes on link 1
-pub changed-made : (id : RequestId) (k : ProductKey) (version : ℕ) (change : Change) (reply : Reply) → filter_map (body_on PRODUCT_TO_STOCK) (changed id k version change reply) ≡ body.Changed k version change ∷ []
-changed-made id k version change reply = refl
 
 -- look: a step that makes no change
 pub copy_made-same : (steps : List Step) (s : Step) (key : ProductKey) → filter_map (body_on PRODUCT_TO_STOCK) s.made ≡ [] → copy_of (changes_made (steps ++ s ∷ [])) key ≡ copy_of (changes_made steps) key

@@ -1,5 +1,5 @@
 -- Lists of confirmed checkouts in which a checkout stands at most once.
-use Rattle.std.proofs.Common.{◌≡◌, ℕ, ◌+◌, ◌≤◌, Bool, true, false, cond, ◌&&◌, ◌||◌, ◌==◌, List, [], ◌∷◌, ◌++◌, Option, Some, None, find, IsSomeAnd, if◌then◌else◌, sum_by, count_by, flat_map, refl, ap, sym, subst, ◌∙◌, append-nil, arith, eqb-true}
+use Rattle.std.proofs.Common.{◌≡◌, ℕ, ◌+◌, ◌≤◌, Bool, true, false, cond, ◌&&◌, ◌||◌, ◌==◌, List, [], ◌∷◌, ◌++◌, Option, Some, None, find, if◌then◌else◌, sum_by, count_by, flat_map, refl, ap, sym, subst, ◌∙◌, append-nil, arith, eqb-true}
 use Rattle.std.specs.List.{list_any}
 use Rattle.std.proofs.lemmas.List.Sums.{sum_by-cons}
 use Rattle.market_amounts.specs.declared.keys.RequestId.{RequestId}
@@ -22,15 +22,6 @@ IsOnce id rs = count_by (is_of id) rs ≤ 1
 pub found-none : (id : RequestId) (rs : List Reservation) → list_any (is_of id) rs ≡ false → find (is_of id) rs ≡ None
 found-none id [] none = refl
 found-none id (r ∷ rs) none = let both = or_parts (is_of id r) (list_any (is_of id) rs) none in rw both.0 (found-none id rs both.1)
-
--- one that is found stands in the list
-pub found-any : (id : RequestId) (rs : List Reservation) (r : Reservation) → find (is_of id) rs ≡ Some r → list_any (is_of id) rs ≡ true
-found-any id [] r found = cc
-found-any id (q ∷ rs) r found = either (is_of id q) refl (λ more. found-any id rs r more)
-  where
-    either : (b : Bool) → is_of id q ≡ b → (find (is_of id) rs ≡ Some r → list_any (is_of id) rs ≡ true) → (is_of id q || list_any (is_of id) rs) ≡ true
-    either true is rest = rw is
-    either false is rest = rw is (rest (rw is at found))
 
 -- one that is found has the id
 pub found-is : (id : RequestId) (rs : List Reservation) (r : Reservation) → find (is_of id) rs ≡ Some r → r.checkout ≡ id
@@ -145,34 +136,6 @@ found-for_lines id customer lines (q ∷ rs) once any = either (is_of id q) refl
         let few : count_by (is_of id) rs ≤ 0 = omega (arith, rw is at counted) in
         rw is (ap (λ (r : Reservation). Some r) (whole (here (list_any (is_for_lines id customer lines) rs) refl (any-none (is_of id) rs few))))
     either false is rest = rw is (rest (omega (arith, rw is at counted)) (later is (is_for_lines id customer lines q) refl))
-
--- a checkout of this customer, in a list in which it stands once: the one that is found is of the customer
-pub found-for : (id : RequestId) (customer : ℕ) (rs : List Reservation) → IsOnce id rs → list_any (is_for id customer) rs ≡ true → IsSomeAnd (find (is_of id) rs) (λ r. r.customer ≡ customer)
-found-for id customer [] once any = cc
-found-for id customer (q ∷ rs) once any = either (is_of id q) refl (λ few more. found-for id customer rs few more)
-  where
-    counted : cond (is_of id q) 1 0 + count_by (is_of id) rs ≤ 1
-    counted = subst (λ n. n ≤ 1) (sum_by-cons (λ (r : Reservation). cond (is_of id r) 1 0) q rs) once
-
-    or_none : (a b : Bool) → (a || b) ≡ true → b ≡ false → a ≡ true
-    or_none true b h none = refl
-    or_none false b h none = cc
-
-    here : (b : Bool) → list_any (is_for id customer) rs ≡ b → list_any (is_of id) rs ≡ false → is_for id customer q ≡ true
-    here true h none = cc (any_weaker (is_for id customer) (is_of id) (λ r h. for-of id customer r h) rs h)
-    here false h none = or_none (is_for id customer q) (list_any (is_for id customer) rs) any h
-
-    later : is_of id q ≡ false → (b : Bool) → is_for id customer q ≡ b → list_any (is_for id customer) rs ≡ true
-    later is true h = cc (for-of id customer q h)
-    later is false h = rw h at any
-
-    either : (b : Bool) → is_of id q ≡ b → (IsOnce id rs → list_any (is_for id customer) rs ≡ true → IsSomeAnd (find (is_of id) rs) (λ r. r.customer ≡ customer))
-        → IsSomeAnd (cond (is_of id q) (Some q) (find (is_of id) rs)) (λ r. r.customer ≡ customer)
-    either true is rest =
-        let few : count_by (is_of id) rs ≤ 0 = omega (arith, rw is at counted) in
-        let whole = here (list_any (is_for id customer) rs) refl (any-none (is_of id) rs few) in
-        rw is (eqb-true q.customer customer (and_both (is_of id q) (q.customer == customer) whole).1)
-    either false is rest = rw is (rest (omega (arith, rw is at counted)) (later is (is_for id customer q) refl))
 
 -- the one that is found is of this customer, and has these lines
 abbrev pub is_customers : ℕ → Option Reservation → Bool

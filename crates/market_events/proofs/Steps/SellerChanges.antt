@@ -1,6 +1,6 @@
 -- What one more step makes of the changes of a seller's entries.
-use Rattle.std.proofs.Common.{◌≡◌, ℕ, ◌+◌, Bool, true, false, ◌||◌, ◌==◌, List, [], ◌∷◌, ◌++◌, Option, Some, None, is_some, length, map, filter, filter_map, fold, if◌then◌else◌, refl, ap, sym, ◌∙◌, append-nil, append_assoc, length-append}
-use Rattle.std.specs.List.{list_any, list_all, flat_map, cons_option}
+use Rattle.std.proofs.Common.{◌≡◌, ℕ, ◌+◌, Bool, true, false, ◌==◌, List, [], ◌∷◌, ◌++◌, Option, Some, None, length, map, filter, fold, if◌then◌else◌, refl, ap, sym, ◌∙◌, append-nil, append_assoc, length-append}
+use Rattle.std.specs.List.{flat_map}
 use Rattle.std.specs.Option.{option_or}
 use Rattle.std.proofs.lemmas.List.{map-append}
 use Rattle.std.proofs.lemmas.List.Elements.{filter-append}
@@ -9,15 +9,14 @@ use Rattle.market_events.specs.declared.bodies.Body.{Body}
 use Rattle.market_events.specs.declared.bodies.Body.TheVariants as body
 use Rattle.market_events.specs.declared.bodies.Item.{Item}
 use Rattle.market_events.specs.declared.bodies.PricedLine.{PricedLine}
-use Rattle.market_events.specs.declared.replies.EntryRow.{EntryRow}
 use Rattle.market_events.specs.declared.replies.OrderStatus.{OrderStatus}
 use Rattle.market_events.specs.declared.replies.OrderStatus.TheVariants as status
-use Rattle.market_events.specs.Sellers.{SellerChange, lines_invoiced, invoice_lines, marked, lines_with_keys, item_delivered, changes_by, changes_after, seller_changes, adds, is_invoiced, entries_at, same_entry, status_at, row_by, in_progress_at}
+use Rattle.market_events.specs.Sellers.{SellerChange, lines_invoiced, invoice_lines, marked, lines_with_keys, item_delivered, changes_by, changes_after, seller_changes, adds, is_invoiced, entries_at, same_entry, status_at}
 use Rattle.market_events.specs.Steps.{Step, taken_bodies}
 use Rattle.market_events.proofs.Steps.Copies.{last_some-push}
 use Rattle.market_events.proofs.Values.Same.{same_id-self, same_key-self}
 use Rattle.market_events.proofs.Steps.Taken.{taken_bodies-push}
-use Rattle.market_events.proofs.Values.Lists.{and_both, flat_map-push, or_right, map-map}
+use Rattle.market_events.proofs.Values.Lists.{flat_map-push, map-map}
 
 -- the changes of one more event, after others
 changes_after-push : (seller : ℕ) (before bs : List Body) (b : Body) → changes_after seller before (bs ++ b ∷ []) ≡ changes_after seller before bs ++ changes_by seller (before ++ bs) b
@@ -91,22 +90,6 @@ entries_at-changes_by seller before (body.Delivered items) other = each items
         ∙ each items
 entries_at-changes_by seller before b other = refl
 
--- entries: those of an invoice stand last
-pub entries_at-invoiced : (steps : List Step) (s : Step) (checkout : RequestId) (customer : ℕ) (lines : List PricedLine) (total : ℕ) → s.body ≡ body.Invoice checkout customer lines total → (seller : ℕ)
-    → entries_at (seller_changes (steps ++ s ∷ []) seller) ≡ entries_at (seller_changes steps seller) ++ marked seller checkout status.Invoiced lines
-entries_at-invoiced steps s checkout customer lines total is seller =
-    ap entries_at (seller_changes-push steps s seller ∙ ap (λ b. seller_changes steps seller ++ changes_by seller (taken_bodies steps) b) is)
-    ∙ entries_at-append (seller_changes steps seller) (marked seller checkout status.Invoiced lines)
-    ∙ ap (λ es. entries_at (seller_changes steps seller) ++ es) (entries_at-marked seller checkout lines)
-
--- entries: any other step
-pub entries_at-other : (steps : List Step) (s : Step) (seller : ℕ) → invoices_none s.body ≡ true → entries_at (seller_changes (steps ++ s ∷ []) seller) ≡ entries_at (seller_changes steps seller)
-entries_at-other steps s seller other =
-    ap entries_at (seller_changes-push steps s seller)
-    ∙ entries_at-append (seller_changes steps seller) (changes_by seller (taken_bodies steps) s.body)
-    ∙ ap (λ es. entries_at (seller_changes steps seller) ++ es) (entries_at-changes_by seller (taken_bodies steps) s.body other)
-    ∙ append-nil (entries_at (seller_changes steps seller))
-
 -- an entry's last status: the last change decides, where it is of the entry
 pub status_at-push : (changes : List SellerChange) (c entry : SellerChange) → status_at (changes ++ c ∷ []) entry ≡ (if same_entry c entry then Some c.status else status_at changes entry)
 status_at-push changes c entry = last_some-push (λ (c : SellerChange). if same_entry c entry then Some c.status else None) changes c ∙ either (same_entry c entry)
@@ -175,44 +158,3 @@ entries_now-append changes (c ∷ more) =
 -- entries: after one more step, its body's changes are given in turn
 pub entries_now-step : (steps : List Step) (s : Step) (seller : ℕ) → entries_now (seller_changes (steps ++ s ∷ []) seller) ≡ fold changed_by (entries_now (seller_changes steps seller)) (changes_by seller (taken_bodies steps) s.body)
 entries_now-step steps s seller = ap entries_now (seller_changes-push steps s seller) ∙ entries_now-append (seller_changes steps seller) (changes_by seller (taken_bodies steps) s.body)
-
--- the row of an entry with its last status
-abbrev pub row_of : SellerChange → Option EntryRow
-row_of entry = row_by entry (Some entry.status)
-
--- an entry that a change is of has a status
-status_at-some : (changes : List SellerChange) (entry : SellerChange) → list_any (λ (c : SellerChange). same_entry c entry) changes ≡ true → is_some (status_at changes entry) ≡ true
-status_at-some [] entry any = cc
-status_at-some (c ∷ changes) entry any = either (same_entry c entry) any (status_at changes entry) (λ more. status_at-some changes entry more)
-  where
-    either : (b : Bool) → (b || list_any (λ (c : SellerChange). same_entry c entry) changes) ≡ true → (o : Option OrderStatus) → (list_any (λ (c : SellerChange). same_entry c entry) changes ≡ true → is_some o ≡ true) → is_some (option_or o (if b then Some c.status else None)) ≡ true
-    either b any (Some st) rest = refl
-    either true any None rest = refl
-    either false any None rest = cc (rest any)
-
--- each entry has a status
-entries_at-some : (changes rest : List SellerChange) → ((e : SellerChange) → list_any (λ (c : SellerChange). same_entry c e) rest ≡ true → is_some (status_at changes e) ≡ true) → list_all (λ (e : SellerChange). is_some (status_at changes e)) (entries_at rest) ≡ true
-entries_at-some changes [] within = refl
-entries_at-some changes (c ∷ rest) within = either (is_invoiced c) (within c (rw (same_id-self c.checkout, same_key-self c.line.key))) (entries_at-some changes rest (λ e any. within e (or_right (same_entry c e) any)))
-  where
-    either : (b : Bool) → is_some (status_at changes c) ≡ true → list_all (λ (e : SellerChange). is_some (status_at changes e)) (entries_at rest) ≡ true → list_all (λ (e : SellerChange). is_some (status_at changes e)) (if b then c ∷ entries_at rest else entries_at rest) ≡ true
-    either true some all = rw some all
-    either false some all = all
-
--- rows: those of the entries with their last status, where that is in progress
-pub in_progress_at-is : (changes : List SellerChange) → in_progress_at changes ≡ filter_map row_of (entries_now changes)
-in_progress_at-is changes = each (entries_at changes) (entries_at-some changes changes (λ e any. status_at-some changes e any))
-  where
-    one : (e : SellerChange) (o : Option OrderStatus) → is_some o ≡ true → row_by e o ≡ row_of (with_status e o)
-    one e None some = cc
-    one e (Some status.Invoiced) some = refl
-    one e (Some status.Paid) some = refl
-    one e (Some status.Shipped) some = refl
-    one e (Some status.Delivered) some = refl
-    one e (Some status.Cancelled) some = refl
-
-    each : (es : List SellerChange) → list_all (λ (e : SellerChange). is_some (status_at changes e)) es ≡ true → filter_map (λ entry. row_by entry (status_at changes entry)) es ≡ filter_map row_of (map (λ (e : SellerChange). with_status e (status_at changes e)) es)
-    each [] all = refl
-    each (e ∷ es) all =
-        let both = and_both (is_some (status_at changes e)) (list_all (λ (e : SellerChange). is_some (status_at changes e)) es) all in
-        λ i. cons_option (one e (status_at changes e) both.0 i) (each es both.1 i)

@@ -2,24 +2,19 @@
 use Rattle.std.proofs.Common.{◌≡◌, ℕ, Bool, true, false, cond, ◌&&◌, ◌==◌, not, List, [], ◌∷◌, ◌++◌, filter, filter_map, if◌then◌else◌, refl, ap, sym, ◌∙◌, append-nil}
 use Rattle.std.specs.List.{list_any, flat_map}
 use Rattle.std.proofs.lemmas.List.Concat.{flat_map-append}
-use Rattle.std.proofs.lemmas.List.Elements.{filter-append}
-use Rattle.std.proofs.lemmas.List.Folds.{list_any-append}
 use Rattle.market_amounts.specs.declared.keys.RequestId.{RequestId}
 use Rattle.market_events.specs.declared.bodies.Body.{Body}
-use Rattle.market_events.specs.declared.bodies.Body.TheVariants as body
 use Rattle.market_events.specs.declared.bodies.Item.{Item}
-use Rattle.market_events.specs.declared.bodies.PricedLine.{PricedLine}
 use Rattle.market_events.specs.declared.links.Link.{Link}
 use Rattle.market_events.specs.Orders.{items_in, is_item_of}
 use Rattle.market_events.specs.Requests.{same_id, same_key}
 use Rattle.market_events.specs.Services.{Role, answers}
-use Rattle.market_events.specs.Shipments.{packages_in, packages, items_made, is_open, open_packages, oldest_of, delivered_of, deliver_rows, shipment_rows, shipment_sums}
+use Rattle.market_events.specs.Shipments.{packages_in, packages, items_made, oldest_of, delivered_of, deliver_rows, shipment_rows, shipment_sums}
 use Rattle.market_events.specs.Steps.{Step, taken_bodies, body_on, made_on}
 use Rattle.market_events.specs.declared.links.TheConstants.{SHIPMENT_TO_CUSTOMER}
-use Rattle.market_events.proofs.Runs.Orders.{is_item_for}
 use Rattle.market_events.proofs.Values.Same.{same_id-true, same_id-self, same_key-true, same_key-self}
 use Rattle.market_events.proofs.Steps.Taken.{taken_bodies-push, made_on-push}
-use Rattle.market_events.proofs.Values.Lists.{or_parts, and_both, flat_map-push, filter-filter, or_right}
+use Rattle.market_events.proofs.Values.Lists.{and_both, flat_map-push, or_right}
 
 -- packages: those of the step's body stand last
 pub packages-push : (steps : List Step) (s : Step) → packages (steps ++ s ∷ []) ≡ packages steps ++ packages_in s.body
@@ -44,48 +39,6 @@ items_made-same steps s none = items_made-push steps s ∙ rw none (append-nil (
 -- the package stands in none of these items
 abbrev pub is_apart_from : List Item → Item → Bool
 is_apart_from items p = not (list_any (is_item_of p.checkout p.key) items)
-
--- open packages: a step whose body is no payment, and that makes no delivery
-pub open_packages-same : (steps : List Step) (s : Step) → packages_in s.body ≡ [] → items_of s ≡ [] → open_packages (steps ++ s ∷ []) ≡ open_packages steps
-open_packages-same steps s none nothing =
-    ap (λ items. filter (is_apart_from items) (packages (steps ++ s ∷ []))) (items_made-same steps s nothing)
-    ∙ ap (filter (is_apart_from (items_made steps))) (packages-same steps s none)
-
--- open packages: those of the step's body that stand in no delivery are added, where it makes none
-pub open_packages-push : (steps : List Step) (s : Step) → items_of s ≡ [] → open_packages (steps ++ s ∷ []) ≡ open_packages steps ++ filter (is_open steps) (packages_in s.body)
-open_packages-push steps s nothing =
-    ap (λ items. filter (is_apart_from items) (packages (steps ++ s ∷ []))) (items_made-same steps s nothing)
-    ∙ ap (filter (is_apart_from (items_made steps))) (packages-push steps s)
-    ∙ filter-append (is_apart_from (items_made steps)) (packages steps) (packages_in s.body)
-
--- where no item is of the checkout, each of its packages is open
-pub packages_in-open : (items : List Item) (checkout : RequestId) (customer : ℕ) → list_any (is_item_for checkout) items ≡ false → (lines : List PricedLine) (total : ℕ)
-    → filter (is_apart_from items) (packages_in (body.Confirmed checkout customer lines total)) ≡ packages_in (body.Confirmed checkout customer lines total)
-packages_in-open items checkout customer none [] total = refl
-packages_in-open items checkout customer none (line ∷ lines) total =
-    rw (among items none) (ap (λ ps. record { checkout = checkout; customer = customer; key = line.key } ∷ ps) (packages_in-open items checkout customer none lines total))
-  where
-    among : (items : List Item) → list_any (is_item_for checkout) items ≡ false → list_any (is_item_of checkout line.key) items ≡ false
-    among [] none = refl
-    among (i ∷ items) none =
-        let both = or_parts (same_id i.checkout checkout) (list_any (is_item_for checkout) items) none in
-        rw both.0 (among items both.1)
-
--- open packages: those of a paid checkout are added, where nothing of it was delivered
-pub open_packages-confirmed : (steps : List Step) (s : Step) (checkout : RequestId) (customer : ℕ) (lines : List PricedLine) (total : ℕ) → s.body ≡ body.Confirmed checkout customer lines total → items_of s ≡ [] → list_any (is_item_for checkout) (items_made steps) ≡ false
-    → open_packages (steps ++ s ∷ []) ≡ open_packages steps ++ packages_in (body.Confirmed checkout customer lines total)
-open_packages-confirmed steps s checkout customer lines total is nothing none =
-    open_packages-push steps s nothing
-    ∙ ap (λ b. open_packages steps ++ filter (is_open steps) (packages_in b)) is
-    ∙ ap (λ ps. open_packages steps ++ ps) (packages_in-open (items_made steps) checkout customer none lines total)
-
--- open packages: those that stand in none of the step's deliveries are left, where its body is no payment
-pub open_packages-delivered : (steps : List Step) (s : Step) → packages_in s.body ≡ [] → open_packages (steps ++ s ∷ []) ≡ filter (is_apart_from (items_of s)) (open_packages steps)
-open_packages-delivered steps s none =
-    ap (λ items. filter (is_apart_from items) (packages (steps ++ s ∷ []))) (items_made-push steps s)
-    ∙ ap (filter (is_apart_from (items_made steps ++ items_of s))) (packages-same steps s none)
-    ∙ ap (λ (test : Item → Bool). filter (λ (p : Item). not (test p)) (packages steps)) (λ i p. list_any-append (is_item_of p.checkout p.key) (items_made steps) (items_of s) i)
-    ∙ filter-filter (λ (p : Item). list_any (is_item_of p.checkout p.key) (items_made steps)) (λ (p : Item). list_any (is_item_of p.checkout p.key) (items_of s)) (packages steps)
 
 -- what shipments answer
 pub answers-shipment : (steps : List Step) (from : Link) (b : Body) → answers Role.Shipment steps from b ≡ shipment_rows (shipment_sums steps) b

@@ -8,15 +8,11 @@ use Rattle.market_amounts.specs.declared.keys.RequestId.{RequestId}
 use Rattle.market_events.specs.declared.bodies.Body.{Body}
 use Rattle.market_events.specs.declared.links.Link.{Link}
 use Rattle.market_events.specs.Carts.{changes_taken}
-use Rattle.market_amounts.specs.declared.keys.ProductKey.{ProductKey}
 use Rattle.market_events.specs.declared.bodies.Body.TheVariants as body
 use Rattle.market_events.specs.declared.changes.Change.{Change}
 use Rattle.market_events.specs.declared.changes.Change.TheVariants as change
 use Rattle.market_events.specs.declared.changes.Look.{Look}
-use Rattle.market_events.specs.Copies.{copy_of}
-use Rattle.market_events.specs.Looks.{is_live, look_version, can_change, look_after}
-use Rattle.market_events.specs.Requests.{same_key}
-use Rattle.market_events.proofs.Steps.Copies.{copy_of-push-same, copy_of-push-other}
+use Rattle.market_events.specs.Looks.{is_live, look_version, can_change}
 use Rattle.market_events.specs.Products.{change_in, changes_made}
 use Rattle.market_events.specs.Steps.{Step, taken_bodies, made_in, body_on, made_on}
 use Rattle.market_events.specs.Orders.{is_taken}
@@ -104,11 +100,11 @@ changes_taken-push steps s = ap (filter_map change_in) (taken_bodies-push steps 
 pub changes_taken-same : (steps : List Step) (s : Step) → change_in s.body ≡ None → changes_taken (steps ++ s ∷ []) ≡ changes_taken steps
 changes_taken-same steps s none = changes_taken-push steps s ∙ rw none (append-nil (changes_taken steps))
 
--- the changes that the step made on link 1 are made last
+-- the changes that the step made for stock are made last
 pub changes_made-push : (steps : List Step) (s : Step) → changes_made (steps ++ s ∷ []) ≡ changes_made steps ++ filter_map change_in (filter_map (body_on PRODUCT_TO_STOCK) s.made)
 changes_made-push steps s = ap (filter_map change_in) (made_on-push PRODUCT_TO_STOCK steps s) ∙ filter_map-append change_in (made_on PRODUCT_TO_STOCK steps) (filter_map (body_on PRODUCT_TO_STOCK) s.made)
 
--- a step that made nothing on link 1
+-- a step that made nothing for stock
 pub changes_made-same : (steps : List Step) (s : Step) → filter_map (body_on PRODUCT_TO_STOCK) s.made ≡ [] → changes_made (steps ++ s ∷ []) ≡ changes_made steps
 changes_made-same steps s none = ap (filter_map change_in) (made_on-same PRODUCT_TO_STOCK steps s none)
 
@@ -174,38 +170,12 @@ change_fits-version look version c fit = first (version == 1 + look_version look
     first true is b h = eqb-true version (1 + look_version look) is
     first false is b h = cc
 
--- the copy: a step whose body tells no change
-pub copy_taken-same : (steps : List Step) (s : Step) (key : ProductKey) → change_in s.body ≡ None → copy_of (changes_taken (steps ++ s ∷ [])) key ≡ copy_of (changes_taken steps) key
-copy_taken-same steps s key none = ap (λ cs. copy_of cs key) (changes_taken-same steps s none)
-
--- the copy: a change of another product was taken
-pub copy_taken-other : (steps : List Step) (s : Step) (key : ProductKey) (k : ProductKey) (version : ℕ) (change : Change) → s.body ≡ body.Changed k version change → same_key key k ≡ false → copy_of (changes_taken (steps ++ s ∷ [])) key ≡ copy_of (changes_taken steps) key
-copy_taken-other steps s key k version change is other =
-    ap (λ cs. copy_of cs key) (changes_taken-push steps s ∙ ap (λ b. changes_taken steps ++ filter_map change_in (b ∷ [])) is)
-    ∙ copy_of-push-other (changes_taken steps) (record { key = k; version = version; change = change }) key other
-
--- the copy: a change of the product was taken, which may come next
-pub copy_taken-changed : (steps : List Step) (s : Step) (key : ProductKey) (k : ProductKey) (version : ℕ) (change : Change) → s.body ≡ body.Changed k version change → same_key key k ≡ true → can_change (copy_of (changes_taken steps) key) change ≡ true → copy_of (changes_taken (steps ++ s ∷ [])) key ≡ look_after (copy_of (changes_taken steps) key) version change
-copy_taken-changed steps s key k version change is same can =
-    ap (λ cs. copy_of cs key) (changes_taken-push steps s ∙ ap (λ b. changes_taken steps ++ filter_map change_in (b ∷ [])) is)
-    ∙ copy_of-push-same (changes_taken steps) (record { key = k; version = version; change = change }) key same can
-
 -- a run has no more steps than there may be
 pub run-few : (role : Role) (steps : List Step) → IsRunOf role steps → length steps ≤ most_steps
 run-few role steps run = run_has role (λ steps. length steps ≤ most_steps) (λ steps s follows few. one_more steps s follows) (omega arith) steps run
   where
     one_more : (steps : List Step) (s : Step) → Follows role steps s → length (steps ++ s ∷ []) ≤ most_steps
     one_more steps s follows = omega (arith, (fits-parts role steps s.from s.body follows.fit).few, length-append steps (s ∷ []))
-
--- a run of one more step is a run and a step that follows it
-pub run-pop : (role : Role) (steps : List Step) (s : Step) → IsRunOf role (steps ++ s ∷ []) → IsRunOf role steps × Follows role steps s
-run-pop role steps s run = from [] steps run
-  where
-    from : (before more : List Step) → RunsFrom role before (more ++ s ∷ []) → RunsFrom role before more × Follows role (before ++ more) s
-    from before [] run = (tt, subst (λ steps. Follows role steps s) (sym (append-nil before)) run.0)
-    from before (x ∷ xs) run =
-        let rest = from (before ++ x ∷ []) xs run.1 in
-        ((run.0, rest.0), subst (λ steps. Follows role steps s) (append_assoc before (x ∷ []) xs) rest.1)
 
 -- each body that a run took is well formed
 pub taken_formed : (role : Role) (steps : List Step) → IsRunOf role steps → list_all body_formed (taken_bodies steps) ≡ true

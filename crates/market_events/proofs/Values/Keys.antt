@@ -13,7 +13,7 @@ use Rattle.market_amounts.specs.declared.keys.ProductKey.{ProductKey}
 use Rattle.market_amounts.specs.declared.keys.RequestId.{RequestId}
 use Rattle.market_events.specs.Requests.{same_key, same_id}
 use Rattle.market_events.specs.Steps.{key_cmp, id_cmp}
-use Rattle.market_events.proofs.Values.Same.{same_key-true, same_id-true}
+use Rattle.market_events.proofs.Values.Same.{same_key-true}
 
 -- pairs of numbers compare equal where both numbers are equal
 is_eq-pair : (a b x y : ℕ) → is_eq (ordering_then (nat_cmp a x) (nat_cmp b y)) ≡ ((a == x) && (b == y))
@@ -31,17 +31,9 @@ eq_by_id_cmp a b = is_eq-pair a.caller a.number b.caller b.number
 pub key_cmp-Equal : (a b : ProductKey) → key_cmp a b ≡ Equal → a ≡ b
 key_cmp-Equal a b is = same_key-true a b (sym (eq_by_key_cmp a b) ∙ ap is_eq is)
 
--- ids that compare equal are equal
-pub id_cmp-Equal : (a b : RequestId) → id_cmp a b ≡ Equal → a ≡ b
-id_cmp-Equal a b is = same_id-true a b (sym (eq_by_id_cmp a b) ∙ ap is_eq is)
-
 -- keys are totally ordered
 pub key_cmp_total : IsTotalOrder key_cmp
 key_cmp_total = then_total (on_total (λ (k : ProductKey). k.seller) nat_cmp_total) (on_total (λ (k : ProductKey). k.product) nat_cmp_total)
-
--- ids are totally ordered
-pub id_cmp_total : IsTotalOrder id_cmp
-id_cmp_total = then_total (on_total (λ (k : RequestId). k.caller) nat_cmp_total) (on_total (λ (k : RequestId). k.number) nat_cmp_total)
 
 -- what a map's look-up finds is what `find` does
 pub find-lookup : {K X : Type 0} (R : K → K → Ordering) (q : K) (es : List (K × X)) → entries.find R q es ≡ lookup (is_at (R q)) es

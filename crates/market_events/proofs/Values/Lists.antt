@@ -134,17 +134,6 @@ any-none test xs few = either (list_any test xs) refl
     either true any = absurd (omega (arith, count-some test xs any, few))
     either false any = any
 
--- a filter after a filter
-pub filter-filter : {A : Type 0} (p q : A → Bool) (xs : List A) → filter (λ x. not (p x || q x)) xs ≡ filter (λ x. not (q x)) (filter (λ x. not (p x)) xs)
-filter-filter p q [] = refl
-filter-filter p q (x ∷ xs) = either (p x) (q x) refl refl (filter-filter p q xs)
-  where
-    either : (a b : Bool) → p x ≡ a → q x ≡ b → filter (λ x. not (p x || q x)) xs ≡ filter (λ x. not (q x)) (filter (λ x. not (p x)) xs)
-        → cond (not (p x || q x)) (x ∷ filter (λ x. not (p x || q x)) xs) (filter (λ x. not (p x || q x)) xs) ≡ filter (λ x. not (q x)) (cond (not (p x)) (x ∷ filter (λ x. not (p x)) xs) (filter (λ x. not (p x)) xs))
-    either true b is also rest = rw is rest
-    either false true is also rest = rw (is, also) rest
-    either false false is also rest = rw (is, also) (ap (λ ys. x ∷ ys) rest)
-
 -- of elements that all pass a test, one that passes another
 pub all-any : {A : Type 0} (p q : A → Bool) (G : Type 0) → ((x : A) → p x ≡ true → q x ≡ true → G) → (xs : List A) → list_all p xs ≡ true → list_any q xs ≡ true → G
 all-any p q G use_it [] all any = cc

@@ -27,14 +27,14 @@ use Rattle.market_laws.proofs.Views.Gathered.{any-kept, sum-parts}
 use Rattle.market_laws.proofs.Moments.ReservationSums.{count-held}
 use Rattle.market_laws.proofs.Settled.Passing.{joined-passing}
 use Rattle.market_laws.proofs.Fits.RepliesOnce.{any-counted}
-use Rattle.market_laws.proofs.Runs.Shipments.{deliveries-15}
+use Rattle.market_laws.proofs.Runs.Shipments.{deliveries-to-customer}
 use Rattle.market_laws.proofs.Settled.Counts.{failed-orders, held-settled, shipped-orders}
 use Rattle.market_laws.proofs.Settled.Links.{ComesOn}
 use Rattle.market_laws.proofs.Settled.Outcomes.{held, settling, was_paid, orders-held, settled-few}
 use Rattle.market_laws.proofs.Settled.Sellers.{no_items}
 
 -- deliveries come into orders from shipments
-delivery-orders : ComesOn order_node 13 is_delivery
+delivery-orders : ComesOn order_node SHIPMENT_TO_ORDER is_delivery
 delivery-orders (body.Delivered items) passes = (tt, refl)
 delivery-orders other passes = cc
 
@@ -74,9 +74,9 @@ module _ (h : Histories) (lawful : IsLawful h) (settled : IsSettled h) (id : Req
 
   order_items : items_taken orders ≡ items
   order_items =
-      lists-made h lawful settled order_node shipment_node 13 (omega arith) (omega arith) (omega arith) refl refl items_in is_delivery no_items delivery-orders
+      lists-made h lawful settled order_node shipment_node SHIPMENT_TO_ORDER (omega arith) (omega arith) (omega arith) refl refl items_in is_delivery no_items delivery-orders
       ∙ joined-passing is_delivery items_in no_items (made_on SHIPMENT_TO_ORDER (service_steps h Role.Shipment))
-      ∙ ap (flat_map items_in) (sym (deliveries-15 (service_steps h Role.Shipment) (steps-run shipment_node (journal_at h shipment_node))))
+      ∙ ap (flat_map items_in) (sym (deliveries-to-customer (service_steps h Role.Shipment) (steps-run shipment_node (journal_at h shipment_node))))
 
   -- the checkout has a reservation, and was paid
   abbrev has : Bool

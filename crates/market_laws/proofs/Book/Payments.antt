@@ -14,6 +14,7 @@ use Rattle.market_events.specs.declared.roles.Role.{Role}
 use Rattle.market_events.specs.Shipments.{packages_in, packages, items_made}
 use Rattle.market_events.specs.Stocks.{Reservation}
 use Rattle.market_events.specs.WellFormed.{total_of}
+use Rattle.market_events.specs.declared.links.TheConstants.{PAYMENT_TO_SHIPMENT, PAYMENT_TO_CUSTOMER, SHIPMENT_TO_CUSTOMER}
 use Rattle.market_history.specs.Acts.{packages_for, count_for, packages_of_checkouts, paid_for_checkouts}
 use Rattle.market_history.specs.Blocks.{service_steps}
 use Rattle.market_history.specs.Book.{paid_in}
@@ -26,26 +27,26 @@ use Rattle.market_laws.proofs.Views.GatheredOnLinks.{lists-made}
 use Rattle.market_laws.proofs.Views.Gathered.{sum-gathered}
 use Rattle.market_laws.proofs.Settled.Passing.{joined-passing}
 use Rattle.market_laws.proofs.Runs.PaymentOutcomes.{AreSettled, none, paid, failed, Picks, picks-later}
-use Rattle.market_laws.proofs.Runs.Payments.{payments-10, payments-11}
+use Rattle.market_laws.proofs.Runs.Payments.{payments-to-shipment, payments-to-customer}
 use Rattle.market_laws.proofs.Settled.Links.{ComesOn, count-made}
 use Rattle.market_laws.proofs.Settled.Outcomes.{held, settling, was_paid, settled-held, paid-picks}
 use Rattle.market_laws.proofs.Settled.Sellers.{no_items}
 use Rattle.market_laws.proofs.Settled.PaidWhole.{paid-total}
 
 -- where these bodies come in
-payment-shipments : ComesOn shipment_node 10 is_payment
+payment-shipments : ComesOn shipment_node PAYMENT_TO_SHIPMENT is_payment
 payment-shipments (body.Confirmed checkout customer lines total) passes = (tt, refl)
 payment-shipments other passes = cc
 
-confirms-customers : (customer : ℕ) → ComesOn customer_node 11 (confirms_for customer)
+confirms-customers : (customer : ℕ) → ComesOn customer_node PAYMENT_TO_CUSTOMER (confirms_for customer)
 confirms-customers customer (body.Confirmed checkout c lines total) passes = (tt, refl)
 confirms-customers customer other passes = cc
 
-fails-customers : (customer : ℕ) → ComesOn customer_node 11 (fails_for customer)
+fails-customers : (customer : ℕ) → ComesOn customer_node PAYMENT_TO_CUSTOMER (fails_for customer)
 fails-customers customer (body.Failed checkout c rule) passes = (tt, refl)
 fails-customers customer other passes = cc
 
-delivery-customers : ComesOn customer_node 15 is_delivery
+delivery-customers : ComesOn customer_node SHIPMENT_TO_CUSTOMER is_delivery
 delivery-customers (body.Delivered items) passes = (tt, refl)
 delivery-customers other passes = cc
 
@@ -101,23 +102,23 @@ module _ (h : Histories) (lawful : IsLawful h) (settled : IsSettled h) where
 
   pub packages-book : packages (service_steps h Role.Shipment) ≡ packages_of_checkouts (filter_map paid_in (settling h))
   packages-book =
-      lists-made h lawful settled shipment_node payment_node 10 (omega arith) (omega arith) (omega arith) refl refl packages_in is_payment no_packages payment-shipments
-      ∙ ap (flat_map packages_in) (payments-10 (service_steps h Role.Payment) (steps-run payment_node (journal_at h payment_node)))
+      lists-made h lawful settled shipment_node payment_node PAYMENT_TO_SHIPMENT (omega arith) (omega arith) (omega arith) refl refl packages_in is_payment no_packages payment-shipments
+      ∙ ap (flat_map packages_in) (payments-to-shipment (service_steps h Role.Payment) (steps-run payment_node (journal_at h payment_node)))
       ∙ sym (joined-passing is_payment packages_in no_packages (settling h)) ∙ packages-paid (settling h)
 
   pub confirmed-book : (customer : ℕ) → confirmed_count (service_steps h Role.Customer) customer ≡ count_for (filter_map paid_in (settling h)) customer
   confirmed-book customer =
-      count-made h lawful settled customer_node payment_node 11 (omega arith) (omega arith) (omega arith) refl refl (confirms_for customer) (confirms-customers customer)
-      ∙ ap (count_by (confirms_for customer)) (sym (payments-11 (service_steps h Role.Payment) (steps-run payment_node (journal_at h payment_node)))) ∙ confirmed-paid customer (settling h)
+      count-made h lawful settled customer_node payment_node PAYMENT_TO_CUSTOMER (omega arith) (omega arith) (omega arith) refl refl (confirms_for customer) (confirms-customers customer)
+      ∙ ap (count_by (confirms_for customer)) (sym (payments-to-customer (service_steps h Role.Payment) (steps-run payment_node (journal_at h payment_node)))) ∙ confirmed-paid customer (settling h)
 
   pub failed-book : (customer : ℕ) → failed_count (service_steps h Role.Customer) customer ≡ count_for (filter (λ (r : Reservation). not (was_paid h r)) (held h)) customer
   failed-book customer =
-      count-made h lawful settled customer_node payment_node 11 (omega arith) (omega arith) (omega arith) refl refl (fails_for customer) (fails-customers customer)
-      ∙ ap (count_by (fails_for customer)) (sym (payments-11 (service_steps h Role.Payment) (steps-run payment_node (journal_at h payment_node))))
+      count-made h lawful settled customer_node payment_node PAYMENT_TO_CUSTOMER (omega arith) (omega arith) (omega arith) refl refl (fails_for customer) (fails-customers customer)
+      ∙ ap (count_by (fails_for customer)) (sym (payments-to-customer (service_steps h Role.Payment) (steps-run payment_node (journal_at h payment_node))))
       ∙ failures-unpaid (was_paid h) customer (settled-held h lawful settled) (paid-picks h lawful settled)
 
   pub customer-items : items_taken (service_steps h Role.Customer) ≡ items_made (service_steps h Role.Shipment)
-  customer-items = lists-made h lawful settled customer_node shipment_node 15 (omega arith) (omega arith) (omega arith) refl refl items_in is_delivery no_items delivery-customers
+  customer-items = lists-made h lawful settled customer_node shipment_node SHIPMENT_TO_CUSTOMER (omega arith) (omega arith) (omega arith) refl refl items_in is_delivery no_items delivery-customers
 
   pub delivered-book : (customer : ℕ) → delivered_count (service_steps h Role.Customer) customer ≡ count_by (λ (i : Item). i.customer == customer) (items_made (service_steps h Role.Shipment))
   delivered-book customer = ap (count_by (λ (i : Item). i.customer == customer)) customer-items

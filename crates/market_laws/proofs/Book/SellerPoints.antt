@@ -15,6 +15,7 @@ use Rattle.market_events.specs.declared.roles.Role.{Role}
 use Rattle.market_events.specs.Shipments.{items_made}
 use Rattle.market_events.specs.Steps.{taken_bodies}
 use Rattle.market_events.specs.Stocks.{Reservation}
+use Rattle.market_events.specs.declared.links.TheConstants.{PAYMENT_TO_SHIPMENT, PAYMENT_TO_SELLER, SHIPMENT_TO_SELLER}
 use Rattle.market_events.proofs.Values.Lists.{sum_by_agree, sum_by_plus}
 use Rattle.market_events.proofs.Values.Same.{same_id-self}
 use Rattle.market_events.proofs.Steps.SellerEntries.{invoice_in, invoice_lines-is}
@@ -31,27 +32,27 @@ use Rattle.market_laws.proofs.Views.Gathered.{gathered-kept, sum-gathered, sum-p
 use Rattle.market_laws.proofs.Settled.Passing.{joined-passing}
 use Rattle.market_laws.proofs.Runs.PaymentOutcomes.{AreSettled, none, paid, failed, failed_in, Picks, picks-later}
 use Rattle.market_laws.proofs.Runs.Gathered.{paid_id, shipped_in, ships-paid}
-use Rattle.market_laws.proofs.Runs.Payments.{payments-10, payments-12}
+use Rattle.market_laws.proofs.Runs.Payments.{payments-to-shipment, payments-to-seller}
 use Rattle.market_laws.proofs.Runs.SellerPoints.{own_lines, weight, point-weighed}
-use Rattle.market_laws.proofs.Runs.Shipments.{shipments-14}
+use Rattle.market_laws.proofs.Runs.Shipments.{shipments-to-seller}
 use Rattle.market_laws.proofs.Settled.Links.{ComesOn}
 use Rattle.market_laws.proofs.Settled.Outcomes.{held, settling, was_paid, sellers-held, settled-held, paid-picks, paid-held, held-alone}
 use Rattle.market_laws.proofs.Settled.Sellers.{seller-items}
 
 -- where these bodies come in
-paid-sellers : ComesOn seller_node 12 (λ b. is_some (paid_in b))
+paid-sellers : ComesOn seller_node PAYMENT_TO_SELLER (λ b. is_some (paid_in b))
 paid-sellers (body.Confirmed checkout customer lines total) passes = (tt, refl)
 paid-sellers other passes = cc
 
-failed-sellers : ComesOn seller_node 12 (λ b. is_some (failed_in b))
+failed-sellers : ComesOn seller_node PAYMENT_TO_SELLER (λ b. is_some (failed_in b))
 failed-sellers (body.Failed checkout customer rule) passes = (tt, refl)
 failed-sellers other passes = cc
 
-shipped-sellers : ComesOn seller_node 14 (λ b. is_some (shipped_in b))
+shipped-sellers : ComesOn seller_node SHIPMENT_TO_SELLER (λ b. is_some (shipped_in b))
 shipped-sellers (body.Shipped checkout) passes = (tt, refl)
 shipped-sellers other passes = cc
 
-payment-shipments : ComesOn shipment_node 10 (λ b. is_some (paid_id b))
+payment-shipments : ComesOn shipment_node PAYMENT_TO_SHIPMENT (λ b. is_some (paid_id b))
 payment-shipments (body.Confirmed checkout customer lines total) passes = (tt, refl)
 payment-shipments other passes = cc
 
@@ -152,21 +153,21 @@ module _ (h : Histories) (lawful : IsLawful h) (settled : IsSettled h) (seller :
 
   sellers-paid : filter_map paid_in bodies ≡ filter (was_paid h) (held h)
   sellers-paid =
-      gathered-made h lawful settled seller_node payment_node 12 (omega arith) (omega arith) (omega arith) refl refl paid_in paid-sellers
-      ∙ ap (filter_map paid_in) (sym (payments-12 (service_steps h Role.Payment) (steps-run payment_node (journal_at h payment_node)))) ∙ paid-held h lawful settled
+      gathered-made h lawful settled seller_node payment_node PAYMENT_TO_SELLER (omega arith) (omega arith) (omega arith) refl refl paid_in paid-sellers
+      ∙ ap (filter_map paid_in) (sym (payments-to-seller (service_steps h Role.Payment) (steps-run payment_node (journal_at h payment_node)))) ∙ paid-held h lawful settled
 
   sellers-failed : filter_map failed_in bodies ≡ filter_map failed_in (settling h)
   sellers-failed =
-      gathered-made h lawful settled seller_node payment_node 12 (omega arith) (omega arith) (omega arith) refl refl failed_in failed-sellers
-      ∙ ap (filter_map failed_in) (sym (payments-12 (service_steps h Role.Payment) (steps-run payment_node (journal_at h payment_node))))
+      gathered-made h lawful settled seller_node payment_node PAYMENT_TO_SELLER (omega arith) (omega arith) (omega arith) refl refl failed_in failed-sellers
+      ∙ ap (filter_map failed_in) (sym (payments-to-seller (service_steps h Role.Payment) (steps-run payment_node (journal_at h payment_node))))
 
   sellers-shipped : filter_map shipped_in bodies ≡ filter_map paid_id (settling h)
   sellers-shipped =
-      gathered-made h lawful settled seller_node shipment_node 14 (omega arith) (omega arith) (omega arith) refl refl shipped_in shipped-sellers
-      ∙ ap (filter_map shipped_in) (sym (shipments-14 (service_steps h Role.Shipment) (steps-run shipment_node (journal_at h shipment_node))))
+      gathered-made h lawful settled seller_node shipment_node SHIPMENT_TO_SELLER (omega arith) (omega arith) (omega arith) refl refl shipped_in shipped-sellers
+      ∙ ap (filter_map shipped_in) (sym (shipments-to-seller (service_steps h Role.Shipment) (steps-run shipment_node (journal_at h shipment_node))))
       ∙ ships-paid (service_steps h Role.Shipment) (steps-run shipment_node (journal_at h shipment_node))
-      ∙ gathered-made h lawful settled shipment_node payment_node 10 (omega arith) (omega arith) (omega arith) refl refl paid_id payment-shipments
-      ∙ ap (filter_map paid_id) (payments-10 (service_steps h Role.Payment) (steps-run payment_node (journal_at h payment_node)) ∙ (λ i. filter (λ b. payment-is b i) (settling h)))
+      ∙ gathered-made h lawful settled shipment_node payment_node PAYMENT_TO_SHIPMENT (omega arith) (omega arith) (omega arith) refl refl paid_id payment-shipments
+      ∙ ap (filter_map paid_id) (payments-to-shipment (service_steps h Role.Payment) (steps-run payment_node (journal_at h payment_node)) ∙ (λ i. filter (λ b. payment-is b i) (settling h)))
       ∙ gathered-kept paid_id (settling h)
 
   pub point-book : length (seller_changes (service_steps h Role.Seller) seller)

@@ -17,6 +17,7 @@ use Rattle.market_events.specs.Carried.{carries, service_carries, asked_of, told
 use Rattle.market_events.specs.Links.{IsLink, same_link, sender_of}
 use Rattle.market_events.specs.Services.{IsRunOf, role_fits, answers, reactions}
 use Rattle.market_events.specs.Steps.{Step, Sending, made_on}
+use Rattle.market_events.specs.declared.links.TheConstants.{SERVICE_LINKS}
 use Rattle.market_events.proofs.Values.Lists.{and_both}
 use Rattle.market_events.proofs.Values.Offers.{same_link-true}
 use Rattle.market_events.proofs.Steps.Taken.{fits-parts}
@@ -39,7 +40,7 @@ use Rattle.market_laws.proofs.Origins.Once.{TookBefore, got-before}
 use Rattle.market_laws.proofs.Origins.Places.{grow-first}
 use Rattle.market_laws.proofs.Origins.Senders.{made-as}
 use Rattle.market_laws.proofs.Fits.All.{services-fit}
-use Rattle.market_laws.proofs.Fits.KindsOnLinks.{IsNoRequest, below_all, below_all-each, comes_on, came}
+use Rattle.market_laws.proofs.Fits.KindsOnLinks.{IsNoRequest, ComesBy, below_all, below_all-each, came}
 use Rattle.market_laws.proofs.Runs.Counts.{member-between}
 use Rattle.market_laws.proofs.Growth.Takers.{grown_at}
 use Rattle.market_laws.proofs.Views.Made.{outs-service}
@@ -195,7 +196,7 @@ IsBetweenServices (body.Asked request) = ⊥
 IsBetweenServices (body.Told id reply) = ⊥
 IsBetweenServices other = Unit {0}
 
-carried_between : (b : Body) → IsBetweenServices b → (link : Link) → IsLink link → carries link b ≡ true → (k : ℕ) × (k < 16) × (link ≡ Service k) × (service_carries (Service k) b ≡ true)
+carried_between : (b : Body) → IsBetweenServices b → (link : Link) → IsLink link → carries link b ≡ true → (k : ℕ) × (k < SERVICE_LINKS) × (link ≡ Service k) × (service_carries (Service k) b ≡ true)
 carried_between b plain (Service k) on carried = (k, on, refl, carried)
 carried_between b plain (Asked lane service) on carried = absurd (by b plain carried)
   where
@@ -214,12 +215,12 @@ then_holds false b all holds = cc
 
 -- where a body was made, and by whom
 pub made-by : (h : Histories) → IsLawful h → (n : ℕ) (made : Event) → MadeAt h n made → (b : Body) → made.body ≡ b → IsBetweenServices b → (node : ℕ) (links : List Link)
-    → below_all (goes_from node links b) 16 ≡ true → IsOnOneOf links made.link × (node ≡ n)
+    → below_all (goes_from node links b) SERVICE_LINKS ≡ true → IsOnOneOf links made.link × (node ≡ n)
 made-by h lawful n made m b is plain node links all =
     let as_made = made-as h lawful n made m in
     let at = carried_between b plain made.link as_made.on (subst (λ b. carries made.link b ≡ true) is as_made.carried) in
     let k = at.0 in
-    let each = below_all-each (goes_from node links b) 16 all k at.1 in
+    let each = below_all-each (goes_from node links b) SERVICE_LINKS all k at.1 in
     let test = same_link (Service k) in
     let both = and_both (list_any test links) (sender_of (Service k) == node) (then_holds (service_carries (Service k) b) (list_any test links && (sender_of (Service k) == node)) each at.3) in
     let found = member_of_any test links both.0 in
@@ -232,12 +233,11 @@ only-link only link (inl same) = same
 only-link only link (inr never) = absurd never
 
 -- what was taken before stands among what was taken on its link
-pub has-taken : (h : Histories) (s : ℕ) (event : Event) (lawful : IsLawful h) (t : TookAt h s event) (b : Body) → TookBefore h s t.clock b → s < services → IsNoRequest b → (k : ℕ) → below_all (comes_on s k b) 16 ≡ true
-    → HasTaken t.before (Service k) b
-has-taken h s event lawful t b u small quiet k only =
-    let on = came h s u.event u.took b u.body_is small quiet k only in
-    let here : Member u.event (got (Service k) t.before) = subst (λ l. Member u.event (got l t.before)) on (got-before h s event lawful t u.event u.took u.clock_is) in
-    subst (λ c. Member c (map (λ (e : Event). e.body) (got (Service k) t.before))) u.body_is (member-map (λ (e : Event). e.body) u.event (got (Service k) t.before) here)
+pub has-taken : (h : Histories) (s : ℕ) (event : Event) (lawful : IsLawful h) (t : TookAt h s event) (b : Body) → TookBefore h s t.clock b → s < services → IsNoRequest b → (link : Link) → ComesBy s link b → HasTaken t.before link b
+has-taken h s event lawful t b u small quiet link only =
+    let on = came h s u.event u.took b u.body_is small quiet link only in
+    let here : Member u.event (got link t.before) = subst (λ l. Member u.event (got l t.before)) on (got-before h s event lawful t u.event u.took u.clock_is) in
+    subst (λ c. Member c (map (λ (e : Event). e.body) (got link t.before))) u.body_is (member-map (λ (e : Event). e.body) u.event (got link t.before) here)
 
 -- at the node that it is
 pub made-at : (h : Histories) (made : Event) (P : (n : ℕ) → MadeAt h n made → Type 0) (node n : ℕ) → node ≡ n → ((m : MadeAt h node made) → P node m) → (m : MadeAt h n made) → P n m

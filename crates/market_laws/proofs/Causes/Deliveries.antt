@@ -9,8 +9,8 @@ use Rattle.market_events.specs.declared.bodies.Body.TheVariants as body
 use Rattle.market_events.specs.declared.bodies.Item.{Item}
 use Rattle.market_events.specs.declared.events.Event.{Event}
 use Rattle.market_events.specs.declared.links.Link.{Link}
-use Rattle.market_events.specs.declared.links.Link.TheVariants.{Service, Asked}
-use Rattle.market_events.specs.declared.links.TheConstants.{SHIPMENT_TO_ORDER, SHIPMENT_TO_SELLER}
+use Rattle.market_events.specs.declared.links.Link.TheVariants.{Asked}
+use Rattle.market_events.specs.declared.links.TheConstants.{SHIPMENT_TO_ORDER, SHIPMENT_TO_SELLER, PAYMENT_TO_SHIPMENT}
 use Rattle.market_events.specs.declared.requests.Ask.{Ask}
 use Rattle.market_events.specs.declared.requests.Ask.TheVariants as ask
 use Rattle.market_events.specs.declared.requests.Request.{Request}
@@ -44,12 +44,12 @@ use Rattle.market_laws.proofs.Origins.Causes.{Cause, cause, cause_steps, cause-r
 use Rattle.market_laws.proofs.Origins.Made.{steps-run, whole}
 use Rattle.market_laws.proofs.Origins.Once.{TookBefore, taken-before, taken-before-any}
 use Rattle.market_laws.proofs.Fits.Asked.{asked-for, asked-on}
-use Rattle.market_laws.proofs.Fits.KindsOnLinks.{below_all, comes_on}
+use Rattle.market_laws.proofs.Fits.KindsOnLinks.{ComesBy}
 use Rattle.market_laws.proofs.Fits.CopyMembers.{member_of_all}
-use Rattle.market_laws.proofs.Fits.ItemsApart.{items_once-13, items_once-14}
+use Rattle.market_laws.proofs.Fits.ItemsApart.{items_once-order, items_once-seller}
 use Rattle.market_laws.proofs.Runs.Apart.{items-once}
 use Rattle.market_laws.proofs.Runs.Counts.{member-either, member-filter}
-use Rattle.market_laws.proofs.Runs.Shipments.{deliveries-15, delivered-paid, shipments-14}
+use Rattle.market_laws.proofs.Runs.Shipments.{deliveries-to-customer, delivered-paid, shipments-to-seller}
 
 -- shipments deliver for a request to deliver alone
 asked_delivers : (s : ShipmentSums) (id : RequestId) (a : Ask) (link : Link) (items : List Item) → Member (link, body.Delivered items) (shipment_asked s id a) → body.Asked (record { id = id; ask = a }) ≡ delivery_asked id
@@ -65,16 +65,16 @@ delivered_for s other link items here = absurd here
 -- what they deliver on one of the links they deliver to orders
 to_orders : (link : Link) → Member link delivery_links → (steps : List Step) → IsRunOf Role.Shipment steps → (b : Body) → Member b (made_on link steps) → Member b (made_on SHIPMENT_TO_ORDER steps)
 to_orders link (inl same) steps run b here =
-    member-filter is_delivery b (made_on SHIPMENT_TO_ORDER steps) (subst (λ l. Member b l) (deliveries-15 steps run) (subst (λ l. Member b (made_on l steps)) same here))
-to_orders link (inr (inl same)) steps run b here = subst (λ l. Member b l) (sym (shipments-14 steps run)) (subst (λ l. Member b (made_on l steps)) same here)
+    member-filter is_delivery b (made_on SHIPMENT_TO_ORDER steps) (subst (λ l. Member b l) (deliveries-to-customer steps run) (subst (λ l. Member b (made_on l steps)) same here))
+to_orders link (inr (inl same)) steps run b here = subst (λ l. Member b l) (sym (shipments-to-seller steps run)) (subst (λ l. Member b (made_on l steps)) same here)
 to_orders link (inr (inr (inl same))) steps run b here = subst (λ l. Member b (made_on l steps)) same here
 to_orders link (inr (inr (inr never))) steps run b here = absurd never
 
 -- and no item twice on any of them
 apart_on : (link : Link) → Member link delivery_links → (steps : List Step) → IsRunOf Role.Shipment steps → lines_apart [] (flat_map items_in (made_on link steps)) ≡ true
 apart_on link (inl same) steps run = subst (λ l. lines_apart [] (flat_map items_in (made_on l steps)) ≡ true) (sym same) (items-once steps run)
-apart_on link (inr (inl same)) steps run = subst (λ l. lines_apart [] (flat_map items_in (made_on l steps)) ≡ true) (sym same) (items_once-14 steps run)
-apart_on link (inr (inr (inl same))) steps run = subst (λ l. lines_apart [] (flat_map items_in (made_on l steps)) ≡ true) (sym same) (items_once-13 steps run)
+apart_on link (inr (inl same)) steps run = subst (λ l. lines_apart [] (flat_map items_in (made_on l steps)) ≡ true) (sym same) (items_once-seller steps run)
+apart_on link (inr (inr (inl same))) steps run = subst (λ l. lines_apart [] (flat_map items_in (made_on l steps)) ≡ true) (sym same) (items_once-order steps run)
 apart_on link (inr (inr (inr never))) steps run = absurd never
 
 module _ (h : Histories) (lawful : IsLawful h) where
@@ -120,18 +120,18 @@ module _ (h : Histories) (lawful : IsLawful h) where
           lines = paid.lines;
           total = paid.total;
           line = paid.line;
-          paid_before = has-taken h shipment_node o.event lawful o.took b (taken-before h shipment_node o.event lawful o.took b before) (omega arith) tt 10 refl;
+          paid_before = has-taken h shipment_node o.event lawful o.took b (taken-before h shipment_node o.event lawful o.took b before) (omega arith) tt PAYMENT_TO_SHIPMENT refl;
         }
 
   -- a shipment that was taken before
-  shipment_before : (c : RequestId) (s : ℕ) (event : Event) (t : TookAt h s event) → s < services → (k : ℕ) → below_all (comes_on s k (body.Shipped c)) 16 ≡ true → is_taken ships (steps_at s t.before) c ≡ true
-      → HasTaken t.before (Service k) (body.Shipped c)
-  shipment_before c s event t small k comes any =
+  shipment_before : (c : RequestId) (s : ℕ) (event : Event) (t : TookAt h s event) → s < services → (link : Link) → ComesBy s link (body.Shipped c) → is_taken ships (steps_at s t.before) c ≡ true
+      → HasTaken t.before link (body.Shipped c)
+  shipment_before c s event t small link comes any =
       let found = taken-before-any h s event lawful t (ships c) any in by found.0 found.1 found.2
     where
-      by : (b : Body) → TookBefore h s t.clock b → ships c b ≡ true → HasTaken t.before (Service k) (body.Shipped c)
+      by : (b : Body) → TookBefore h s t.clock b → ships c b ≡ true → HasTaken t.before link (body.Shipped c)
       by (body.Shipped id) u passes =
-          has-taken h s event lawful t (body.Shipped c) (subst (λ i. TookBefore h s t.clock (body.Shipped i)) (same_id-true id c passes) u) small tt k comes
+          has-taken h s event lawful t (body.Shipped c) (subst (λ i. TookBefore h s t.clock (body.Shipped i)) (same_id-true id c passes) u) small tt link comes
       by other u passes = let no : ⊥ = cc in absurd no
 
   -- the block of a request to deliver
@@ -170,7 +170,7 @@ module _ (h : Histories) (lawful : IsLawful h) where
         let all = (and_both (items_apart (items_taken steps) items) (list_all (order_item_fits steps) items) due).1 in
         let one = member_of_all (order_item_fits steps) item items all here in
         let line = list_any (λ (r : Reservation). is_of item.checkout r && is_line_of r.lines item) (checkouts_taken steps) in
-        shipment_before c order_node event t (omega arith) 13 refl (ap (is_taken ships steps) (sym same) ∙ (and_both (is_taken ships steps item.checkout) line one).0)
+        shipment_before c order_node event t (omega arith) SHIPMENT_TO_ORDER refl (ap (is_taken ships steps) (sym same) ∙ (and_both (is_taken ships steps item.checkout) line one).0)
 
     seller_before : (event : Event) (t : TookAt h seller_node event) (items : List Item) (item : Item) → event.body ≡ body.Delivered items → Member item items → item.checkout ≡ c → HasTaken t.before SHIPMENT_TO_SELLER (body.Shipped c)
     seller_before event t items item is here same =
@@ -179,7 +179,7 @@ module _ (h : Histories) (lawful : IsLawful h) where
         let all = (and_both (items_apart (items_taken steps) items) (list_all (seller_item_fits steps) items) due).1 in
         let one = member_of_all (seller_item_fits steps) item items all here in
         let line = is_line_of (invoice_lines (taken_bodies steps) item.checkout) item in
-        shipment_before c seller_node event t (omega arith) 14 refl (ap (is_taken ships steps) (sym same) ∙ (and_both (is_taken ships steps item.checkout) line one).0)
+        shipment_before c seller_node event t (omega arith) SHIPMENT_TO_SELLER refl (ap (is_taken ships steps) (sym same) ∙ (and_both (is_taken ships steps item.checkout) line one).0)
 
     line_once : (key : ProductKey) (link : Link) → Member link delivery_links → count_by (is_item_of c key) (flat_map items_in (bodies_of (sent link (journal_at h shipment_node)))) ≤ 1
     line_once key link among =

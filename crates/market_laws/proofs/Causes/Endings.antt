@@ -55,8 +55,8 @@ ended_for s other link c end here = absurd here
 module _ (h : Histories) (lawful : IsLawful h) (c : RequestId) where
   ended_by : (made : Event) (m : MadeAt h order_node made) (o : Cause h order_node made m) (end : Ending) → IsEndedBy c end o.event.body → EndingIsCaused h order_node made m c end
   ended_by made m o (ending.Undone rule) (customer, is) =
-      let b = body.Failed c customer rule in (customer, caused-by h order_node made m o PAYMENT_TO_ORDER b (came h order_node o.event o.took b is (omega arith) tt 9 refl) is)
-  ended_by made m o (ending.Whole total) is = caused-by h order_node made m o SHIPMENT_TO_ORDER (body.Shipped c) (came h order_node o.event o.took (body.Shipped c) is (omega arith) tt 13 refl) is
+      let b = body.Failed c customer rule in (customer, caused-by h order_node made m o PAYMENT_TO_ORDER b (came h order_node o.event o.took b is (omega arith) tt PAYMENT_TO_ORDER refl) is)
+  ended_by made m o (ending.Whole total) is = caused-by h order_node made m o SHIPMENT_TO_ORDER (body.Shipped c) (came h order_node o.event o.took (body.Shipped c) is (omega arith) tt SHIPMENT_TO_ORDER refl) is
 
   ended : (made : Event) (m : MadeAt h order_node made) (end : Ending) → made.body ≡ body.Ended c end → EndingIsCaused h order_node made m c end
   ended made m end is =

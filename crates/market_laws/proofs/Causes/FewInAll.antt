@@ -1,5 +1,6 @@
 -- With its request a checkout makes at most 14 events: of the links between lanes and services, one each way has one.
-use Rattle.std.proofs.Common.{◌≡◌, ℕ, zero, suc, ◌+◌, ◌<◌, ◌≤◌, ◌==◌, Bool, true, false, cond, List, [], ◌∷◌, ◌++◌, eqb-true, refl, ap, sym, ◌∙◌, subst, arith}
+use Rattle.std.proofs.Common.{◌≡◌, ℕ, zero, suc, ◌+◌, ◌<◌, ◌≤◌, ◌==◌, Bool, true, false, cond, List, [], ◌∷◌, ◌++◌, eqb-true, refl, ap, sym, ◌∙◌, subst, arith, nat_le}
+use Rattle.std.proofs.lemmas.Bool.Decides.{nat_tests}
 use Rattle.std.specs.List.{flat_map, sum_by, range_with_len}
 use Rattle.std.proofs.lemmas.Bool.{eqb-false}
 use Rattle.std.proofs.lemmas.List.Sums.{sum_by-cons}
@@ -20,6 +21,7 @@ use Rattle.market_events.specs.declared.links.TheConstants.{PAYMENT_TO_ORDER, PA
 use Rattle.market_events.specs.declared.links.TheConstants.{PAYMENT_TO_CUSTOMER, PAYMENT_TO_SELLER}
 use Rattle.market_events.specs.declared.links.TheConstants.{SHIPMENT_TO_ORDER, SHIPMENT_TO_SELLER}
 use Rattle.market_events.specs.declared.links.TheConstants.{SHIPMENT_TO_CUSTOMER}
+use Rattle.market_events.specs.declared.roles.TheConstants.{SERVICES}
 use Rattle.market_events.proofs.Values.Same.{same_id-true}
 use Rattle.market_history.specs.Checkouts.{is_kept_checkout}
 use Rattle.market_history.specs.Histories.{Histories, journal_at}
@@ -30,10 +32,10 @@ use Rattle.market_history.specs.Outstanding.{service_links, lane_links, all_link
 use Rattle.market_history.proofs.GrowSent.{bodies_on}
 use Rattle.market_laws.specs.Causes.{made_for, all_made_for, names}
 use Rattle.market_laws.specs.Runs.{Member, tells}
-use Rattle.market_laws.proofs.Causes.FewOnLinks.{MadeOn, made-of-member, count-members, count-never, few-0, few-1, few-2, few-3-4, few-5, few-6, few-7, few-8, few-9, few-10, few-11, few-12, few-13, few-14, few-15}
+use Rattle.market_laws.proofs.Causes.FewOnLinks.{MadeOn, made-of-member, count-members, count-never, few-product-to-cart, few-product-to-stock, few-cart-to-stock, few-from-stock, few-order-to-payment, few-order-to-seller, few-order-to-cart, few-payment-to-stock, few-payment-to-order, few-payment-to-shipment, few-payment-to-customer, few-payment-to-seller, few-shipment-to-order, few-shipment-to-seller, few-shipment-to-customer}
 use Rattle.market_laws.proofs.Causes.Tellings.{asks-for, tellings-caused}
 use Rattle.market_laws.proofs.Origins.Senders.{made-as}
-use Rattle.market_laws.proofs.Bounds.LinkEnds.{by_link}
+use Rattle.market_laws.proofs.Bounds.Sums.{all_of_range}
 use Rattle.market_laws.proofs.Growth.Outs.{lane_of-small}
 use Rattle.market_laws.proofs.Fits.AskedByLanes.{asked-view, asked-given, asked-few}
 use Rattle.market_laws.proofs.Growth.Takers.{grown_at}
@@ -58,17 +60,18 @@ unfolding total
 total-parts f g [] = refl
 total-parts f g (x ∷ xs) = omega (arith, total-append f (g x) (flat_map g xs), total-parts f g xs)
 
-total-le : (f g : ℕ → ℕ) (a n : ℕ) → a + n ≤ 16 → ((i : ℕ) → i < 16 → f i ≤ g i) → total f (range_with_len a n) ≤ total g (range_with_len a n)
+total-le : (f g : ℕ → ℕ) (a n : ℕ) → a + n ≤ LANES → ((i : ℕ) → i < LANES → f i ≤ g i) → total f (range_with_len a n) ≤ total g (range_with_len a n)
 unfolding total
 total-le f g a zero small le = omega arith
 total-le f g a (suc n) small le = omega (arith, le a (omega arith), total-le f g (a + 1) n (omega arith) le)
 
 -- a term of one lane alone
-one_lane : (lane : ℕ) → lane < 16 → total (λ i. cond (i == lane) 2 0) (range_with_len 0 16) ≤ 2
+one_lane : (lane : ℕ) → lane < LANES → total (λ i. cond (i == lane) 2 0) (range_with_len 0 LANES) ≤ 2
 unfolding total
-one_lane =
-    by_link (λ lane. total (λ i. cond (i == lane) 2 0) (range_with_len 0 16) ≤ 2) (omega arith) (omega arith) (omega arith) (omega arith) (omega arith) (omega arith) (omega arith) (omega arith)
-    (omega arith) (omega arith) (omega arith) (omega arith) (omega arith) (omega arith) (omega arith) (omega arith)
+one_lane lane lt =
+    let test : nat_le (total (λ i. cond (i == lane) 2 0) (range_with_len 0 LANES)) 2 ≡ true =
+    all_of_range (λ lane. nat_le (total (λ i. cond (i == lane) 2 0) (range_with_len 0 LANES)) 2) 0 LANES refl lane (omega arith) lt in
+    grind (arith, nat_tests)
 
 -- the links of a lane, and those between services
 lane_parts : (f : Link → ℕ) (lane : ℕ) → total f (lane_links lane)
@@ -84,7 +87,7 @@ unfolding total
 service_parts f = refl
 
 -- all links
-over_all : (f : Link → ℕ) → sum_by f all_links ≡ total f service_links + total (λ lane. total f (lane_links lane)) (range_with_len 0 16)
+over_all : (f : Link → ℕ) → sum_by f all_links ≡ total f service_links + total (λ lane. total f (lane_links lane)) (range_with_len 0 LANES)
 over_all f =
     total-is f all_links ∙ total-append f service_links (flat_map lane_links (range_with_len 0 LANES)) ∙ ap (λ k. total f service_links + k) (total-parts f lane_links (range_with_len 0 LANES))
 
@@ -99,7 +102,7 @@ asks_on lane s c other carried named = cc
 
 module _ (h : Histories) (lawful : IsLawful h) (c : RequestId) (kept : is_kept_checkout h c ≡ true) where
   -- the request comes from the lane of its id, for the cart
-  asked_from : (lane s : ℕ) → lane < 16 → (b : Body) → Member b (bodies_on (Asked lane s) (journal_at h (lane_node lane))) → names c b ≡ true → (lane ≡ lane_of c) × (s ≡ cart_node)
+  asked_from : (lane s : ℕ) → lane < LANES → (b : Body) → Member b (bodies_on (Asked lane s) (journal_at h (lane_node lane))) → names c b ≡ true → (lane ≡ lane_of c) × (s ≡ cart_node)
   asked_from lane s lt b here named =
       let link = Asked lane s in
       let m = made-of-member h lawful (lane_node lane) (omega arith) link b here in
@@ -118,12 +121,12 @@ module _ (h : Histories) (lawful : IsLawful h) (c : RequestId) (kept : is_kept_c
           (at, sym (eqb-true (service_by_ask request.ask) s carried) ∙ ap service_by_ask asks.1)
       by other carried own here named = let no : ⊥ = cc in absurd no
 
-  asked_none : (lane s : ℕ) → lane < 16 → (lane ≡ lane_of c → s ≡ cart_node → ⊥) → made_for h c (Asked lane s) ≤ 0
+  asked_none : (lane s : ℕ) → lane < LANES → (lane ≡ lane_of c → s ≡ cart_node → ⊥) → made_for h c (Asked lane s) ≤ 0
   asked_none lane s lt differs =
       let bs = bodies_on (Asked lane s) (journal_at h (lane_node lane)) in
       omega (arith, count-members (names c) (λ b. false) bs (λ b here named. let at = asked_from lane s lt b here named in absurd (differs at.0 at.1)), count-never bs)
 
-  asked_one : (lane s : ℕ) → lane < 16 → made_for h c (Asked lane s) ≤ 1
+  asked_one : (lane s : ℕ) → lane < LANES → made_for h c (Asked lane s) ≤ 1
   asked_one lane s lt =
       let node = lane_node lane in
       let bs = bodies_on (Asked lane s) (journal_at h node) in
@@ -136,7 +139,7 @@ module _ (h : Histories) (lawful : IsLawful h) (c : RequestId) (kept : is_kept_c
           asks_on lane s c b (subst (λ l. carries l b ≡ true) m.on (subst (λ x. carries m.event.link x ≡ true) m.body_is as_made.carried)) named
 
   -- the reply goes from the cart to that lane
-  told_from : (s lane : ℕ) → s < 8 → (b : Body) → Member b (bodies_on (Told s lane) (journal_at h s)) → names c b ≡ true → (Told s lane ≡ Told cart_node (lane_of c)) × (tells c b ≡ true)
+  told_from : (s lane : ℕ) → s < SERVICES → (b : Body) → Member b (bodies_on (Told s lane) (journal_at h s)) → names c b ≡ true → (Told s lane ≡ Told cart_node (lane_of c)) × (tells c b ≡ true)
   told_from s lane lt b here named =
       let m = made-of-member h lawful s (omega arith) (Told s lane) b here in
       let as_made = made-as h lawful s m.event m.made in
@@ -149,7 +152,7 @@ module _ (h : Histories) (lawful : IsLawful h) (c : RequestId) (kept : is_kept_c
           (sym m.on ∙ ((tellings-caused h lawful c kept).cause s m.event m.made r body_is).0, named)
       by other m carried named = let no : ⊥ = cc in absurd no
 
-  told_none : (s lane : ℕ) → s < 8 → (lane ≡ lane_of c → s ≡ cart_node → ⊥) → made_for h c (Told s lane) ≤ 0
+  told_none : (s lane : ℕ) → s < SERVICES → (lane ≡ lane_of c → s ≡ cart_node → ⊥) → made_for h c (Told s lane) ≤ 0
   told_none s lane lt differs =
       let bs = bodies_on (Told s lane) (journal_at h s) in
       omega (arith, count-members (names c) (λ b. false) bs each, count-never bs)
@@ -168,12 +171,12 @@ module _ (h : Histories) (lawful : IsLawful h) (c : RequestId) (kept : is_kept_c
       omega (arith, count-members (names c) (tells c) bs (λ b here named. (told_from cart_node (lane_of c) (omega arith) b here named).1), (tellings-caused h lawful c kept).once))
 
   -- the links of a lane
-  lane_few : (lane : ℕ) → lane < 16 → total (made_for h c) (lane_links lane) ≤ cond (lane == lane_of c) 2 0
+  lane_few : (lane : ℕ) → lane < LANES → total (made_for h c) (lane_links lane) ≤ cond (lane == lane_of c) 2 0
   lane_few lane lt =
       let f = made_for h c in
       let parts = lane_parts f lane in
       let asked : (s : ℕ) → 1 ≤ s → f (Asked lane s) ≤ 0 = (λ s low. asked_none lane s lt (λ at cart. omega arith)) in
-      let told : (s : ℕ) → 1 ≤ s → s < 8 → f (Told s lane) ≤ 0 = (λ s low small. told_none s lane small (λ at cart. omega arith)) in
+      let told : (s : ℕ) → 1 ≤ s → s < SERVICES → f (Told s lane) ≤ 0 = (λ s low small. told_none s lane small (λ at cart. omega arith)) in
       let rest : total f (lane_links lane) ≤ f (Asked lane cart_node) + f (Told cart_node lane) =
       omega (
         arith,
@@ -208,29 +211,29 @@ module _ (h : Histories) (lawful : IsLawful h) (c : RequestId) (kept : is_kept_c
       omega (
         arith,
         parts,
-        few-0 h lawful c,
-        few-1 h lawful c,
-        few-2 h lawful c,
-        few-3-4 h lawful c,
-        few-5 h lawful c,
-        few-6 h lawful c,
-        few-7 h lawful c,
-        few-8 h lawful c,
-        few-9 h lawful c,
-        few-10 h lawful c,
-        few-11 h lawful c,
-        few-12 h lawful c,
-        few-13 h lawful c,
-        few-14 h lawful c,
-        few-15 h lawful c,
+        few-product-to-cart h lawful c,
+        few-product-to-stock h lawful c,
+        few-cart-to-stock h lawful c,
+        few-from-stock h lawful c,
+        few-order-to-payment h lawful c,
+        few-order-to-seller h lawful c,
+        few-order-to-cart h lawful c,
+        few-payment-to-stock h lawful c,
+        few-payment-to-order h lawful c,
+        few-payment-to-shipment h lawful c,
+        few-payment-to-customer h lawful c,
+        few-payment-to-seller h lawful c,
+        few-shipment-to-order h lawful c,
+        few-shipment-to-seller h lawful c,
+        few-shipment-to-customer h lawful c,
       )
 
-  all_made : all_made_for h c ≡ total (made_for h c) service_links + total (λ lane. total (made_for h c) (lane_links lane)) (range_with_len 0 16)
+  all_made : all_made_for h c ≡ total (made_for h c) service_links + total (λ lane. total (made_for h c) (lane_links lane)) (range_with_len 0 LANES)
   unfolding all_made_for
   all_made = over_all (made_for h c)
 
   -- on all links
   pub few-caused : all_made_for h c ≤ 14
   few-caused =
-      at_most (all_made_for h c) (total (made_for h c) service_links) (total (λ lane. total (made_for h c) (lane_links lane)) (range_with_len 0 16)) (total (λ lane. cond (lane == lane_of c) 2 0) (range_with_len 0 16)) all_made
-      services_few (total-le (λ lane. total (made_for h c) (lane_links lane)) (λ lane. cond (lane == lane_of c) 2 0) 0 16 (omega arith) lane_few) (one_lane (lane_of c) (lane_of-small c))
+      at_most (all_made_for h c) (total (made_for h c) service_links) (total (λ lane. total (made_for h c) (lane_links lane)) (range_with_len 0 LANES)) (total (λ lane. cond (lane == lane_of c) 2 0) (range_with_len 0 LANES)) all_made
+      services_few (total-le (λ lane. total (made_for h c) (lane_links lane)) (λ lane. cond (lane == lane_of c) 2 0) 0 LANES (omega arith) lane_few) (one_lane (lane_of c) (lane_of-small c))

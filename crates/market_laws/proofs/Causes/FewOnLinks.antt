@@ -1,4 +1,4 @@
--- How many events that name a checkout go on each service link: one at most (few-2 and so on), and on the two from stock together (few-3-4).
+-- How many events that name a checkout go on each service link: one at most (few-cart-to-stock and so on), and on the two from stock together (few-from-stock).
 use Rattle.std.proofs.Common.{◌≡◌, ℕ, ◌+◌, ◌<◌, ◌≤◌, Bool, true, false, cond, List, [], ◌∷◌, count_by, inl, inr, refl, ap, subst, arith}
 use Rattle.std.proofs.lemmas.List.Sums.{sum_by-cons}
 use Rattle.market_amounts.specs.declared.keys.RequestId.{RequestId}
@@ -7,8 +7,7 @@ use Rattle.market_events.specs.declared.bodies.Body.TheVariants as body
 use Rattle.market_events.specs.declared.events.Entry.{Entry}
 use Rattle.market_events.specs.declared.events.Event.{Event}
 use Rattle.market_events.specs.declared.links.Link.{Link}
-use Rattle.market_events.specs.declared.links.Link.TheVariants.{Service}
-use Rattle.market_events.specs.Carried.{carries, service_carries}
+use Rattle.market_events.specs.Carried.{carries}
 use Rattle.market_events.specs.Links.{cart_node, product_node, stock_node, order_node, payment_node, shipment_node}
 use Rattle.market_events.specs.Orders.{ships}
 use Rattle.market_events.specs.Services.{ends, invoices, reserves}
@@ -82,93 +81,93 @@ count-never [] = refl
 count-never (x ∷ xs) = omega (arith, sum_by-cons (λ y. 0) x xs, count-never xs)
 
 -- what names a checkout on each link is of one kind
-abbrev IsKindOn : ℕ → (RequestId → Body → Bool) → Type 0
-IsKindOn k kind = (c : RequestId) (b : Body) → service_carries (Service k) b ≡ true → names c b ≡ true → kind c b ≡ true
+abbrev IsKindOn : Link → (RequestId → Body → Bool) → Type 0
+IsKindOn link kind = (c : RequestId) (b : Body) → carries link b ≡ true → names c b ≡ true → kind c b ≡ true
 
 -- changes and deliveries name none
-none_on_0 : IsKindOn 0 (λ c b. false)
-none_on_0 c (body.Changed key version change) carried named = named
-none_on_0 c other carried named = carried
+none_to_cart : IsKindOn PRODUCT_TO_CART (λ c b. false)
+none_to_cart c (body.Changed key version change) carried named = named
+none_to_cart c other carried named = carried
 
-none_on_1 : IsKindOn 1 (λ c b. false)
-none_on_1 c (body.Changed key version change) carried named = named
-none_on_1 c other carried named = carried
+none_to_stock : IsKindOn PRODUCT_TO_STOCK (λ c b. false)
+none_to_stock c (body.Changed key version change) carried named = named
+none_to_stock c other carried named = carried
 
-none_on_15 : IsKindOn 15 (λ c b. false)
-none_on_15 c (body.Delivered items) carried named = named
-none_on_15 c other carried named = carried
+none_to_customer : IsKindOn SHIPMENT_TO_CUSTOMER (λ c b. false)
+none_to_customer c (body.Delivered items) carried named = named
+none_to_customer c other carried named = carried
 
-reserves_on : IsKindOn 2 reserves
+reserves_on : IsKindOn CART_TO_STOCK reserves
 reserves_on c (body.Reserve checkout customer lines) carried named = named
 reserves_on c other carried named = cc
 
-refusals_on : IsKindOn 3 ends
+refusals_on : IsKindOn STOCK_TO_CART ends
 refusals_on c (body.ReserveFailed checkout key rule) carried named = named
 refusals_on c other carried named = cc
 
-held_on : IsKindOn 4 holds_pieces
+held_on : IsKindOn STOCK_TO_ORDER holds_pieces
 held_on c (body.StockConfirmed checkout customer lines) carried named = named
 held_on c other carried named = cc
 
-invoices_on_5 : IsKindOn 5 invoices
-invoices_on_5 c (body.Invoice checkout customer lines total) carried named = named
-invoices_on_5 c other carried named = cc
+invoices_to_payment : IsKindOn ORDER_TO_PAYMENT invoices
+invoices_to_payment c (body.Invoice checkout customer lines total) carried named = named
+invoices_to_payment c other carried named = cc
 
-invoices_on_6 : IsKindOn 6 invoices
-invoices_on_6 c (body.Invoice checkout customer lines total) carried named = named
-invoices_on_6 c other carried named = cc
+invoices_to_seller : IsKindOn ORDER_TO_SELLER invoices
+invoices_to_seller c (body.Invoice checkout customer lines total) carried named = named
+invoices_to_seller c other carried named = cc
 
-ends_on : IsKindOn 7 ends
+ends_on : IsKindOn ORDER_TO_CART ends
 ends_on c (body.Ended checkout end) carried named = named
 ends_on c other carried named = cc
 
-settles_on_8 : IsKindOn 8 settles
-settles_on_8 c (body.Confirmed checkout customer lines total) carried named = named
-settles_on_8 c (body.Failed checkout customer rule) carried named = named
-settles_on_8 c other carried named = cc
+settles_to_stock : IsKindOn PAYMENT_TO_STOCK settles
+settles_to_stock c (body.Confirmed checkout customer lines total) carried named = named
+settles_to_stock c (body.Failed checkout customer rule) carried named = named
+settles_to_stock c other carried named = cc
 
-settles_on_9 : IsKindOn 9 settles
-settles_on_9 c (body.Confirmed checkout customer lines total) carried named = named
-settles_on_9 c (body.Failed checkout customer rule) carried named = named
-settles_on_9 c other carried named = cc
+settles_to_order : IsKindOn PAYMENT_TO_ORDER settles
+settles_to_order c (body.Confirmed checkout customer lines total) carried named = named
+settles_to_order c (body.Failed checkout customer rule) carried named = named
+settles_to_order c other carried named = cc
 
-settles_on_10 : IsKindOn 10 settles
-settles_on_10 c (body.Confirmed checkout customer lines total) carried named = named
-settles_on_10 c other carried named = cc
+settles_to_shipment : IsKindOn PAYMENT_TO_SHIPMENT settles
+settles_to_shipment c (body.Confirmed checkout customer lines total) carried named = named
+settles_to_shipment c other carried named = cc
 
-settles_on_11 : IsKindOn 11 settles
-settles_on_11 c (body.Confirmed checkout customer lines total) carried named = named
-settles_on_11 c (body.Failed checkout customer rule) carried named = named
-settles_on_11 c other carried named = cc
+settles_to_customer : IsKindOn PAYMENT_TO_CUSTOMER settles
+settles_to_customer c (body.Confirmed checkout customer lines total) carried named = named
+settles_to_customer c (body.Failed checkout customer rule) carried named = named
+settles_to_customer c other carried named = cc
 
-settles_on_12 : IsKindOn 12 settles
-settles_on_12 c (body.Confirmed checkout customer lines total) carried named = named
-settles_on_12 c (body.Failed checkout customer rule) carried named = named
-settles_on_12 c other carried named = cc
+settles_to_seller : IsKindOn PAYMENT_TO_SELLER settles
+settles_to_seller c (body.Confirmed checkout customer lines total) carried named = named
+settles_to_seller c (body.Failed checkout customer rule) carried named = named
+settles_to_seller c other carried named = cc
 
-ships_on_13 : IsKindOn 13 ships
-ships_on_13 c (body.Shipped checkout) carried named = named
-ships_on_13 c (body.Delivered items) carried named = cc
-ships_on_13 c other carried named = cc
+ships_to_order : IsKindOn SHIPMENT_TO_ORDER ships
+ships_to_order c (body.Shipped checkout) carried named = named
+ships_to_order c (body.Delivered items) carried named = cc
+ships_to_order c other carried named = cc
 
-ships_on_14 : IsKindOn 14 ships
-ships_on_14 c (body.Shipped checkout) carried named = named
-ships_on_14 c (body.Delivered items) carried named = cc
-ships_on_14 c other carried named = cc
+ships_to_seller : IsKindOn SHIPMENT_TO_SELLER ships
+ships_to_seller c (body.Shipped checkout) carried named = named
+ships_to_seller c (body.Delivered items) carried named = cc
+ships_to_seller c other carried named = cc
 
 module _ (h : Histories) (lawful : IsLawful h) (c : RequestId) where
   -- no more events name it on a link than are of the link's kind
-  as_kind : (k n : ℕ) → n < NODES → (kind : RequestId → Body → Bool) → IsKindOn k kind → count_by (names c) (bodies_on (Service k) (journal_at h n)) ≤ count_by (kind c) (bodies_on (Service k) (journal_at h n))
-  as_kind k n lt kind is_kind = count-members (names c) (kind c) (bodies_on (Service k) (journal_at h n)) each
+  as_kind : (link : Link) (n : ℕ) → n < NODES → (kind : RequestId → Body → Bool) → IsKindOn link kind → count_by (names c) (bodies_on link (journal_at h n)) ≤ count_by (kind c) (bodies_on link (journal_at h n))
+  as_kind link n lt kind is_kind = count-members (names c) (kind c) (bodies_on link (journal_at h n)) each
     where
-      each : (b : Body) → Member b (bodies_on (Service k) (journal_at h n)) → names c b ≡ true → kind c b ≡ true
+      each : (b : Body) → Member b (bodies_on link (journal_at h n)) → names c b ≡ true → kind c b ≡ true
       each b here named =
-          let m = made-of-member h lawful n lt (Service k) b here in
+          let m = made-of-member h lawful n lt link b here in
           let carried = (made-as h lawful n m.event m.made).carried in
           is_kind c b (subst (λ l. carries l b ≡ true) m.on (subst (λ x. carries m.event.link x ≡ true) m.body_is carried)) named
 
-  as_none : (k n : ℕ) → n < NODES → IsKindOn k (λ c b. false) → count_by (names c) (bodies_on (Service k) (journal_at h n)) ≤ 0
-  as_none k n lt is_kind = omega (arith, as_kind k n lt (λ c b. false) is_kind, count-never (bodies_on (Service k) (journal_at h n)))
+  as_none : (link : Link) (n : ℕ) → n < NODES → IsKindOn link (λ c b. false) → count_by (names c) (bodies_on link (journal_at h n)) ≤ 0
+  as_none link n lt is_kind = omega (arith, as_kind link n lt (λ c b. false) is_kind, count-never (bodies_on link (journal_at h n)))
 
   -- stock holds its pieces or refuses it, and not both
   one_answer : count_by (holds_pieces c) (bodies_on STOCK_TO_ORDER (journal_at h stock_node)) + count_by (ends c) (bodies_on STOCK_TO_CART (journal_at h stock_node)) ≤ 1
@@ -179,47 +178,47 @@ module _ (h : Histories) (lawful : IsLawful h) (c : RequestId) where
       let refused = ap (count_by (ends c)) (whole h lawful stock_node (omega arith) STOCK_TO_CART) in
       omega (arith, held, refused, answered-is steps run c, reserves-once steps run c)
 
-  pub few-3-4 : made_for h c STOCK_TO_CART + made_for h c STOCK_TO_ORDER ≤ 1
-  few-3-4 = omega (arith, one_answer, as_kind 3 stock_node (omega arith) ends refusals_on, as_kind 4 stock_node (omega arith) holds_pieces held_on)
+  pub few-from-stock : made_for h c STOCK_TO_CART + made_for h c STOCK_TO_ORDER ≤ 1
+  few-from-stock = omega (arith, one_answer, as_kind STOCK_TO_CART stock_node (omega arith) ends refusals_on, as_kind STOCK_TO_ORDER stock_node (omega arith) holds_pieces held_on)
 
-  pub few-0 : made_for h c PRODUCT_TO_CART ≤ 0
-  few-0 = as_none 0 product_node (omega arith) none_on_0
+  pub few-product-to-cart : made_for h c PRODUCT_TO_CART ≤ 0
+  few-product-to-cart = as_none PRODUCT_TO_CART product_node (omega arith) none_to_cart
 
-  pub few-1 : made_for h c PRODUCT_TO_STOCK ≤ 0
-  few-1 = as_none 1 product_node (omega arith) none_on_1
+  pub few-product-to-stock : made_for h c PRODUCT_TO_STOCK ≤ 0
+  few-product-to-stock = as_none PRODUCT_TO_STOCK product_node (omega arith) none_to_stock
 
-  pub few-15 : made_for h c SHIPMENT_TO_CUSTOMER ≤ 0
-  few-15 = as_none 15 shipment_node (omega arith) none_on_15
+  pub few-shipment-to-customer : made_for h c SHIPMENT_TO_CUSTOMER ≤ 0
+  few-shipment-to-customer = as_none SHIPMENT_TO_CUSTOMER shipment_node (omega arith) none_to_customer
 
-  pub few-2 : made_for h c CART_TO_STOCK ≤ 1
-  few-2 = omega (arith, as_kind 2 cart_node (omega arith) reserves reserves_on, (reserves-caused h lawful c).once)
+  pub few-cart-to-stock : made_for h c CART_TO_STOCK ≤ 1
+  few-cart-to-stock = omega (arith, as_kind CART_TO_STOCK cart_node (omega arith) reserves reserves_on, (reserves-caused h lawful c).once)
 
-  pub few-5 : made_for h c ORDER_TO_PAYMENT ≤ 1
-  few-5 = omega (arith, as_kind 5 order_node (omega arith) invoices invoices_on_5, (invoices-caused h lawful c).once_to_payment)
+  pub few-order-to-payment : made_for h c ORDER_TO_PAYMENT ≤ 1
+  few-order-to-payment = omega (arith, as_kind ORDER_TO_PAYMENT order_node (omega arith) invoices invoices_to_payment, (invoices-caused h lawful c).once_to_payment)
 
-  pub few-6 : made_for h c ORDER_TO_SELLER ≤ 1
-  few-6 = omega (arith, as_kind 6 order_node (omega arith) invoices invoices_on_6, (invoices-caused h lawful c).once_to_seller)
+  pub few-order-to-seller : made_for h c ORDER_TO_SELLER ≤ 1
+  few-order-to-seller = omega (arith, as_kind ORDER_TO_SELLER order_node (omega arith) invoices invoices_to_seller, (invoices-caused h lawful c).once_to_seller)
 
-  pub few-7 : made_for h c ORDER_TO_CART ≤ 1
-  few-7 = omega (arith, as_kind 7 order_node (omega arith) ends ends_on, (endings-caused h lawful c).once)
+  pub few-order-to-cart : made_for h c ORDER_TO_CART ≤ 1
+  few-order-to-cart = omega (arith, as_kind ORDER_TO_CART order_node (omega arith) ends ends_on, (endings-caused h lawful c).once)
 
-  pub few-8 : made_for h c PAYMENT_TO_STOCK ≤ 1
-  few-8 = omega (arith, as_kind 8 payment_node (omega arith) settles settles_on_8, (payments-caused h lawful c).once_to_stock)
+  pub few-payment-to-stock : made_for h c PAYMENT_TO_STOCK ≤ 1
+  few-payment-to-stock = omega (arith, as_kind PAYMENT_TO_STOCK payment_node (omega arith) settles settles_to_stock, (payments-caused h lawful c).once_to_stock)
 
-  pub few-9 : made_for h c PAYMENT_TO_ORDER ≤ 1
-  few-9 = omega (arith, as_kind 9 payment_node (omega arith) settles settles_on_9, (payments-caused h lawful c).once_to_order)
+  pub few-payment-to-order : made_for h c PAYMENT_TO_ORDER ≤ 1
+  few-payment-to-order = omega (arith, as_kind PAYMENT_TO_ORDER payment_node (omega arith) settles settles_to_order, (payments-caused h lawful c).once_to_order)
 
-  pub few-10 : made_for h c PAYMENT_TO_SHIPMENT ≤ 1
-  few-10 = omega (arith, as_kind 10 payment_node (omega arith) settles settles_on_10, (payments-caused h lawful c).once_to_shipment)
+  pub few-payment-to-shipment : made_for h c PAYMENT_TO_SHIPMENT ≤ 1
+  few-payment-to-shipment = omega (arith, as_kind PAYMENT_TO_SHIPMENT payment_node (omega arith) settles settles_to_shipment, (payments-caused h lawful c).once_to_shipment)
 
-  pub few-11 : made_for h c PAYMENT_TO_CUSTOMER ≤ 1
-  few-11 = omega (arith, as_kind 11 payment_node (omega arith) settles settles_on_11, (payments-caused h lawful c).once_to_customer)
+  pub few-payment-to-customer : made_for h c PAYMENT_TO_CUSTOMER ≤ 1
+  few-payment-to-customer = omega (arith, as_kind PAYMENT_TO_CUSTOMER payment_node (omega arith) settles settles_to_customer, (payments-caused h lawful c).once_to_customer)
 
-  pub few-12 : made_for h c PAYMENT_TO_SELLER ≤ 1
-  few-12 = omega (arith, as_kind 12 payment_node (omega arith) settles settles_on_12, (payments-caused h lawful c).once_to_seller)
+  pub few-payment-to-seller : made_for h c PAYMENT_TO_SELLER ≤ 1
+  few-payment-to-seller = omega (arith, as_kind PAYMENT_TO_SELLER payment_node (omega arith) settles settles_to_seller, (payments-caused h lawful c).once_to_seller)
 
-  pub few-13 : made_for h c SHIPMENT_TO_ORDER ≤ 1
-  few-13 = omega (arith, as_kind 13 shipment_node (omega arith) ships ships_on_13, (shipments-caused h lawful c).once_to_order)
+  pub few-shipment-to-order : made_for h c SHIPMENT_TO_ORDER ≤ 1
+  few-shipment-to-order = omega (arith, as_kind SHIPMENT_TO_ORDER shipment_node (omega arith) ships ships_to_order, (shipments-caused h lawful c).once_to_order)
 
-  pub few-14 : made_for h c SHIPMENT_TO_SELLER ≤ 1
-  few-14 = omega (arith, as_kind 14 shipment_node (omega arith) ships ships_on_14, (shipments-caused h lawful c).once_to_seller)
+  pub few-shipment-to-seller : made_for h c SHIPMENT_TO_SELLER ≤ 1
+  few-shipment-to-seller = omega (arith, as_kind SHIPMENT_TO_SELLER shipment_node (omega arith) ships ships_to_seller, (shipments-caused h lawful c).once_to_seller)

@@ -1,5 +1,5 @@
 -- How invoices are made: to sellers and to payments, once, in the block of the StockConfirmed.
-use Rattle.std.proofs.Common.{◌≡◌, ℕ, ◌≤◌, List, [], ◌∷◌, Option, Some, None, count_by, refl, ap, sym, ◌∙◌, subst, arith}
+use Rattle.std.proofs.Common.{◌≡◌, ℕ, ◌≤◌, List, Option, Some, None, count_by, refl, ap, sym, ◌∙◌, subst, arith}
 use Rattle.market_amounts.specs.declared.keys.RequestId.{RequestId}
 use Rattle.market_events.specs.declared.bodies.Body.{Body}
 use Rattle.market_events.specs.declared.bodies.Body.TheVariants as body
@@ -26,7 +26,7 @@ use Rattle.market_laws.proofs.Causes.Replies.{AllTold, told-member}
 use Rattle.market_laws.proofs.Origins.Causes.{cause}
 use Rattle.market_laws.proofs.Fits.KindsOnLinks.{came}
 use Rattle.market_laws.proofs.Fits.Payments.{invoices-few}
-use Rattle.market_laws.proofs.Runs.Orders.{invoices-6}
+use Rattle.market_laws.proofs.Runs.Orders.{invoices-to-seller}
 
 -- orders answer a request by telling a lane
 pub order-tells : (s : OrderSums) (id : RequestId) (a : Ask) → AllTold (order_asked s id a)
@@ -59,7 +59,7 @@ module _ (h : Histories) (lawful : IsLawful h) (c : RequestId) where
       let b = body.Invoice c customer lines total in
       let here = subst (λ l. Member (made.link, b) l) (answers-order steps o.event.link o.event.body) (among-answers h order_node made m o b is) in
       let for = invoiced_for (order_sums steps) o.event.body made.link c customer lines total here in
-      caused-by h order_node made m o STOCK_TO_ORDER (body.StockConfirmed c customer lines) (came h order_node o.event o.took (body.StockConfirmed c customer lines) for (omega arith) tt 4 refl) for
+      caused-by h order_node made m o STOCK_TO_ORDER (body.StockConfirmed c customer lines) (came h order_node o.event o.took (body.StockConfirmed c customer lines) for (omega arith) tt STOCK_TO_ORDER refl) for
 
   -- the block of a StockConfirmed
   abbrev Invoices : (n : ℕ) (event : Event) → TookAt h n event → ℕ → List PricedLine → Type 0
@@ -81,6 +81,6 @@ module _ (h : Histories) (lawful : IsLawful h) (c : RequestId) where
         (by.0, made-at h made (λ n m. IsCausedBy h n made m STOCK_TO_ORDER (body.StockConfirmed c customer lines)) order_node n by.1 (λ m. invoiced made m customer lines total is) m);
     makes = λ n event t customer lines on is.
         took-at h event (λ n t. Invoices n event t customer lines) order_node n (sym (ap receiver_of on) ∙ t.ready.1) (makes_invoices event customer lines is) t;
-    once_to_seller = made-few h lawful order_node (omega arith) ORDER_TO_SELLER (invoices c) (λ steps run. subst (λ bs. count_by (invoices c) bs ≤ 1) (invoices-6 steps run) (invoices-few c steps run));
+    once_to_seller = made-few h lawful order_node (omega arith) ORDER_TO_SELLER (invoices c) (λ steps run. subst (λ bs. count_by (invoices c) bs ≤ 1) (invoices-to-seller steps run) (invoices-few c steps run));
     once_to_payment = made-few h lawful order_node (omega arith) ORDER_TO_PAYMENT (invoices c) (invoices-few c);
   }

@@ -1,5 +1,5 @@
 -- How payments are made: a Confirmed or a Failed on each link, once, in the block of the Invoice; sellers took the invoice before.
-use Rattle.std.proofs.Common.{◌≡◌, ℕ, ◌≤◌, ◌==◌, ◌&&◌, not, true, List, [], ◌∷◌, ◌⊎◌, count_by, eqb-true, inl, inr, refl, ap, sym, ◌∙◌, subst, arith}
+use Rattle.std.proofs.Common.{◌≡◌, ℕ, ◌≤◌, ◌==◌, ◌&&◌, not, true, List, ◌⊎◌, count_by, eqb-true, inl, inr, refl, ap, sym, ◌∙◌, subst, arith}
 use Rattle.std.specs.List.{list_any}
 use Rattle.market_amounts.specs.declared.keys.RequestId.{RequestId}
 use Rattle.market_events.specs.declared.bodies.Body.{Body}
@@ -33,7 +33,7 @@ use Rattle.market_laws.proofs.Origins.Causes.{cause}
 use Rattle.market_laws.proofs.Origins.Once.{TookBefore, taken-before-any}
 use Rattle.market_laws.proofs.Fits.KindsOnLinks.{came}
 use Rattle.market_laws.proofs.Fits.Shipments.{settles-few}
-use Rattle.market_laws.proofs.Runs.Payments.{invoice_cases, payments-9, payments-10, payments-11, payments-12}
+use Rattle.market_laws.proofs.Runs.Payments.{invoice_cases, payments-to-order, payments-to-shipment, payments-to-customer, payments-to-seller}
 use Rattle.market_laws.proofs.Causes.Counts.{count-filter}
 
 -- payments answer a request by telling a lane
@@ -75,9 +75,9 @@ unpaid_for s (body.Invoice id buyer ls sum) link c customer rule here =
 unpaid_for s other link c customer rule here = absurd here
 
 -- payments settle a checkout to shipments once at most
-settles_few_10 : (id : RequestId) (steps : List Step) → IsRunOf Role.Payment steps → count_by (settles id) (made_on PAYMENT_TO_SHIPMENT steps) ≤ 1
-settles_few_10 id steps run =
-    subst (λ bs. count_by (settles id) bs ≤ 1) (sym (payments-10 steps run)) (omega (arith, count-filter (settles id) is_payment (made_on PAYMENT_TO_STOCK steps), settles-few id steps run))
+settles_few_shipment : (id : RequestId) (steps : List Step) → IsRunOf Role.Payment steps → count_by (settles id) (made_on PAYMENT_TO_SHIPMENT steps) ≤ 1
+settles_few_shipment id steps run =
+    subst (λ bs. count_by (settles id) bs ≤ 1) (sym (payments-to-shipment steps run)) (omega (arith, count-filter (settles id) is_payment (made_on PAYMENT_TO_STOCK steps), settles-few id steps run))
 
 module _ (h : Histories) (lawful : IsLawful h) (c : RequestId) where
   confirmed : (made : Event) (m : MadeAt h payment_node made) (customer : ℕ) (lines : List PricedLine) (total : ℕ) → made.body ≡ body.Confirmed c customer lines total
@@ -88,7 +88,7 @@ module _ (h : Histories) (lawful : IsLawful h) (c : RequestId) where
       let b = body.Confirmed c customer lines total in
       let here = subst (λ l. Member (made.link, b) l) (answers-payment steps o.event.link o.event.body) (among-answers h payment_node made m o b is) in
       let for = paid_for (payment_sums steps) o.event.body made.link c customer lines total here in
-      caused-by h payment_node made m o ORDER_TO_PAYMENT (body.Invoice c customer lines total) (came h payment_node o.event o.took (body.Invoice c customer lines total) for (omega arith) tt 5 refl) for
+      caused-by h payment_node made m o ORDER_TO_PAYMENT (body.Invoice c customer lines total) (came h payment_node o.event o.took (body.Invoice c customer lines total) for (omega arith) tt ORDER_TO_PAYMENT refl) for
 
   failed : (made : Event) (m : MadeAt h payment_node made) (customer : ℕ) (rule : PayRule) → made.body ≡ body.Failed c customer rule
       → (lines : List PricedLine) × (total : ℕ) × IsCausedBy h payment_node made m ORDER_TO_PAYMENT (body.Invoice c customer lines total)
@@ -99,7 +99,7 @@ module _ (h : Histories) (lawful : IsLawful h) (c : RequestId) where
       let here = subst (λ l. Member (made.link, b) l) (answers-payment steps o.event.link o.event.body) (among-answers h payment_node made m o b is) in
       let for = unpaid_for (payment_sums steps) o.event.body made.link c customer rule here in
       let invoice = body.Invoice c customer for.0 for.1 in
-      (for.0, for.1, caused-by h payment_node made m o ORDER_TO_PAYMENT invoice (came h payment_node o.event o.took invoice for.2 (omega arith) tt 5 refl) for.2)
+      (for.0, for.1, caused-by h payment_node made m o ORDER_TO_PAYMENT invoice (came h payment_node o.event o.took invoice for.2 (omega arith) tt ORDER_TO_PAYMENT refl) for.2)
 
   -- the block of an Invoice
   abbrev Settles : (n : ℕ) (event : Event) → TookAt h n event → ℕ → List PricedLine → ℕ → Type 0
@@ -130,7 +130,7 @@ module _ (h : Histories) (lawful : IsLawful h) (c : RequestId) where
           let both = and_both (same_id id c && (buyer == customer)) (same_lines ls lines) passes in
           let first = and_both (same_id id c) (buyer == customer) both.0 in
           let same : body.Invoice id buyer ls sum ≡ body.Invoice c customer lines sum = (λ i. body.Invoice (same_id-true id c first.0 i) (eqb-true buyer customer first.1 i) (same_lines-true ls lines both.1 i) sum) in
-          (sum, has-taken h seller_node event lawful t (body.Invoice c customer lines sum) (subst (λ b. TookBefore h seller_node t.clock b) same u) (omega arith) tt 6 refl)
+          (sum, has-taken h seller_node event lawful t (body.Invoice c customer lines sum) (subst (λ b. TookBefore h seller_node t.clock b) same u) (omega arith) tt ORDER_TO_SELLER refl)
       by other u passes = let no : ⊥ = cc in absurd no
 
   -- and before the failure of one
@@ -146,7 +146,7 @@ module _ (h : Histories) (lawful : IsLawful h) (c : RequestId) where
       by (body.Invoice id buyer ls sum) u passes =
           let first = and_both (same_id id c) (buyer == customer) passes in
           let same : body.Invoice id buyer ls sum ≡ body.Invoice c customer ls sum = (λ i. body.Invoice (same_id-true id c first.0 i) (eqb-true buyer customer first.1 i) ls sum) in
-          (ls, sum, has-taken h seller_node event lawful t (body.Invoice c customer ls sum) (subst (λ b. TookBefore h seller_node t.clock b) same u) (omega arith) tt 6 refl)
+          (ls, sum, has-taken h seller_node event lawful t (body.Invoice c customer ls sum) (subst (λ b. TookBefore h seller_node t.clock b) same u) (omega arith) tt ORDER_TO_SELLER refl)
       by other u passes = let no : ⊥ = cc in absurd no
 
   -- where the same goes on another link as to stock
@@ -167,10 +167,10 @@ module _ (h : Histories) (lawful : IsLawful h) (c : RequestId) where
     makes = λ n event t customer lines total on is.
         took-at h event (λ n t. Settles n event t customer lines total) payment_node n (sym (ap receiver_of on) ∙ t.ready.1) (makes_settled event customer lines total is) t;
     once_to_stock = made-few h lawful payment_node (omega arith) PAYMENT_TO_STOCK (settles c) (settles-few c);
-    once_to_customer = made-few h lawful payment_node (omega arith) PAYMENT_TO_CUSTOMER (settles c) (once_as_stock PAYMENT_TO_CUSTOMER payments-11);
-    once_to_seller = made-few h lawful payment_node (omega arith) PAYMENT_TO_SELLER (settles c) (once_as_stock PAYMENT_TO_SELLER payments-12);
-    once_to_order = made-few h lawful payment_node (omega arith) PAYMENT_TO_ORDER (settles c) (once_as_stock PAYMENT_TO_ORDER payments-9);
-    once_to_shipment = made-few h lawful payment_node (omega arith) PAYMENT_TO_SHIPMENT (settles c) (settles_few_10 c);
+    once_to_customer = made-few h lawful payment_node (omega arith) PAYMENT_TO_CUSTOMER (settles c) (once_as_stock PAYMENT_TO_CUSTOMER payments-to-customer);
+    once_to_seller = made-few h lawful payment_node (omega arith) PAYMENT_TO_SELLER (settles c) (once_as_stock PAYMENT_TO_SELLER payments-to-seller);
+    once_to_order = made-few h lawful payment_node (omega arith) PAYMENT_TO_ORDER (settles c) (once_as_stock PAYMENT_TO_ORDER payments-to-order);
+    once_to_shipment = made-few h lawful payment_node (omega arith) PAYMENT_TO_SHIPMENT (settles c) (settles_few_shipment c);
     confirmed_before = invoice_before;
     failed_before = invoice_before_failed;
   }

@@ -145,7 +145,7 @@ module _ (h : Histories) (lawful : IsLawful h) (c : RequestId) where
       let all = (and_both (not (is_taken reserves steps c)) (list_all test lines) due).1 in
       let last = known-told (taken_bodies steps) line.key (member_of_all test line lines all here) in
       let b = body.Changed line.key last.0 last.1 in
-      (last.0, last.1, has-taken h stock_node event lawful t b (taken-before h stock_node event lawful t b last.2) (omega arith) tt 1 refl)
+      (last.0, last.1, has-taken h stock_node event lawful t b (taken-before h stock_node event lawful t b last.2) (omega arith) tt PRODUCT_TO_STOCK refl)
 
   -- how a Reserve is made
   pub reserves-caused : ReservesHaveCauses h c

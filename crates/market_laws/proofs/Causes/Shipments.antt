@@ -7,7 +7,6 @@ use Rattle.market_events.specs.declared.bodies.Item.{Item}
 use Rattle.market_events.specs.declared.bodies.PricedLine.{PricedLine}
 use Rattle.market_events.specs.declared.events.Event.{Event}
 use Rattle.market_events.specs.declared.links.Link.{Link}
-use Rattle.market_events.specs.declared.links.Link.TheVariants.{Service}
 use Rattle.market_events.specs.declared.links.TheConstants.{PAYMENT_TO_ORDER, PAYMENT_TO_SHIPMENT, PAYMENT_TO_SELLER, SHIPMENT_TO_ORDER, SHIPMENT_TO_SELLER}
 use Rattle.market_events.specs.declared.requests.Ask.{Ask}
 use Rattle.market_events.specs.declared.requests.Ask.TheVariants as ask
@@ -29,9 +28,9 @@ use Rattle.market_laws.specs.Runs.{Member}
 use Rattle.market_laws.proofs.Causes.Blocks.{due-here, made-few, not-among, same-body, makes-these, among-answers, caused-by, made-by, has-taken, made-at, took-at}
 use Rattle.market_laws.proofs.Origins.Causes.{cause}
 use Rattle.market_laws.proofs.Origins.Once.{TookBefore, taken-before-any}
-use Rattle.market_laws.proofs.Fits.KindsOnLinks.{came, below_all, comes_on}
+use Rattle.market_laws.proofs.Fits.KindsOnLinks.{came, ComesBy}
 use Rattle.market_laws.proofs.Fits.Orders.{ships-few}
-use Rattle.market_laws.proofs.Runs.Shipments.{shipments-14}
+use Rattle.market_laws.proofs.Runs.Shipments.{shipments-to-seller}
 
 -- a payment of the checkout
 abbrev IsPaymentOf : RequestId → Body → Type 0
@@ -67,7 +66,7 @@ module _ (h : Histories) (lawful : IsLawful h) (c : RequestId) where
       let here = subst (λ l. Member (made.link, body.Shipped c) l) (answers-shipment steps o.event.link o.event.body) (among-answers h shipment_node made m o (body.Shipped c) is) in
       let for = shipped_for (shipment_sums steps) o.event.body made.link c here in
       let b = body.Confirmed c for.0 for.1 for.2 in
-      (for.0, for.1, for.2, caused-by h shipment_node made m o PAYMENT_TO_SHIPMENT b (came h shipment_node o.event o.took b for.3 (omega arith) tt 10 refl) for.3)
+      (for.0, for.1, for.2, caused-by h shipment_node made m o PAYMENT_TO_SHIPMENT b (came h shipment_node o.event o.took b for.3 (omega arith) tt PAYMENT_TO_SHIPMENT refl) for.3)
 
   makes_shipped : (event : Event) (customer : ℕ) (lines : List PricedLine) (total : ℕ) → event.body ≡ body.Confirmed c customer lines total → (t : TookAt h shipment_node event)
       → MakesJust h shipment_node event t (on_each shipment_links (body.Shipped c))
@@ -76,18 +75,18 @@ module _ (h : Histories) (lawful : IsLawful h) (c : RequestId) where
       makes-these h lawful shipment_node (omega arith) event t (on_each shipment_links (body.Shipped c)) (answers-shipment steps event.link event.body ∙ ap (shipment_rows (shipment_sums steps)) is)
 
   -- a payment that was taken before
-  payment_before : (s : ℕ) (event : Event) (t : TookAt h s event) → s < services → (k : ℕ)
-      → ((customer : ℕ) (lines : List PricedLine) (total : ℕ) → below_all (comes_on s k (body.Confirmed c customer lines total)) 16 ≡ true) → is_taken confirms (steps_at s t.before) c ≡ true
-      → (customer : ℕ) × (lines : List PricedLine) × (total : ℕ) × HasTaken t.before (Service k) (body.Confirmed c customer lines total)
-  payment_before s event t small k comes any =
+  payment_before : (s : ℕ) (event : Event) (t : TookAt h s event) → s < services → (link : Link)
+      → ((customer : ℕ) (lines : List PricedLine) (total : ℕ) → ComesBy s link (body.Confirmed c customer lines total)) → is_taken confirms (steps_at s t.before) c ≡ true
+      → (customer : ℕ) × (lines : List PricedLine) × (total : ℕ) × HasTaken t.before link (body.Confirmed c customer lines total)
+  payment_before s event t small link comes any =
       let found = taken-before-any h s event lawful t (confirms c) any in by found.0 found.1 found.2
     where
-      by : (b : Body) → TookBefore h s t.clock b → confirms c b ≡ true → (customer : ℕ) × (lines : List PricedLine) × (total : ℕ) × HasTaken t.before (Service k) (body.Confirmed c customer lines total)
+      by : (b : Body) → TookBefore h s t.clock b → confirms c b ≡ true → (customer : ℕ) × (lines : List PricedLine) × (total : ℕ) × HasTaken t.before link (body.Confirmed c customer lines total)
       by (body.Confirmed id buyer ls sum) u passes = (
         buyer,
         ls,
         sum,
-        has-taken h s event lawful t (body.Confirmed c buyer ls sum) (subst (λ i. TookBefore h s t.clock (body.Confirmed i buyer ls sum)) (same_id-true id c passes) u) small tt k (comes buyer ls sum),
+        has-taken h s event lawful t (body.Confirmed c buyer ls sum) (subst (λ i. TookBefore h s t.clock (body.Confirmed i buyer ls sum)) (same_id-true id c passes) u) small tt link (comes buyer ls sum),
       )
       by other u passes = let no : ⊥ = cc in absurd no
 
@@ -97,14 +96,14 @@ module _ (h : Histories) (lawful : IsLawful h) (c : RequestId) where
   order_before event t is =
       let steps = steps_at order_node t.before in
       let due : role_fits Role.Order steps (body.Shipped c) ≡ true = subst (λ b. role_fits Role.Order steps b ≡ true) is (due-here h lawful order_node (omega arith) event t) in
-      payment_before order_node event t (omega arith) 9 (λ customer lines total. refl) (and_both (is_taken confirms steps c) (not (is_taken ships steps c)) due).0
+      payment_before order_node event t (omega arith) PAYMENT_TO_ORDER (λ customer lines total. refl) (and_both (is_taken confirms steps c) (not (is_taken ships steps c)) due).0
 
   seller_before : (event : Event) (t : TookAt h seller_node event) → event.body ≡ body.Shipped c
       → (customer : ℕ) × (lines : List PricedLine) × (total : ℕ) × HasTaken t.before PAYMENT_TO_SELLER (body.Confirmed c customer lines total)
   seller_before event t is =
       let steps = steps_at seller_node t.before in
       let due : role_fits Role.Seller steps (body.Shipped c) ≡ true = subst (λ b. role_fits Role.Seller steps b ≡ true) is (due-here h lawful seller_node (omega arith) event t) in
-      payment_before seller_node event t (omega arith) 12 (λ customer lines total. refl) (and_both (is_taken confirms steps c) (not (is_taken ships steps c)) due).0
+      payment_before seller_node event t (omega arith) PAYMENT_TO_SELLER (λ customer lines total. refl) (and_both (is_taken confirms steps c) (not (is_taken ships steps c)) due).0
 
   -- how shipments are made
   pub shipments-caused : ShipmentsHaveCauses h c
@@ -114,7 +113,7 @@ module _ (h : Histories) (lawful : IsLawful h) (c : RequestId) where
         (by.0, made-at h made (λ n m. Paid n made m) shipment_node n by.1 (λ m. shipped made m is) m);
     makes = λ n event t customer lines total on is.
         took-at h event (λ n t. MakesJust h n event t (on_each shipment_links (body.Shipped c))) shipment_node n (sym (ap receiver_of on) ∙ t.ready.1) (makes_shipped event customer lines total is) t;
-    once_to_seller = made-few h lawful shipment_node (omega arith) SHIPMENT_TO_SELLER (ships c) (λ steps run. subst (λ bs. count_by (ships c) bs ≤ 1) (shipments-14 steps run) (ships-few c steps run));
+    once_to_seller = made-few h lawful shipment_node (omega arith) SHIPMENT_TO_SELLER (ships c) (λ steps run. subst (λ bs. count_by (ships c) bs ≤ 1) (shipments-to-seller steps run) (ships-few c steps run));
     once_to_order = made-few h lawful shipment_node (omega arith) SHIPMENT_TO_ORDER (ships c) (ships-few c);
     order_before = order_before;
     seller_before = seller_before;

@@ -89,7 +89,7 @@ module _ (h : Histories) (lawful : IsLawful h) (c : RequestId) where
       let steps = steps_at stock_node o.took.before in
       let here = subst (λ l. Member (made.link, body.StockConfirmed c customer lines) l) (answers-stock steps o.event.link o.event.body) (among-answers h stock_node made m o (body.StockConfirmed c customer lines) is) in
       let for = held_for (stock_sums steps) o.event.body made.link c customer lines here in
-      caused-by h stock_node made m o CART_TO_STOCK (body.Reserve c customer lines) (came h stock_node o.event o.took (body.Reserve c customer lines) for (omega arith) tt 2 refl) for
+      caused-by h stock_node made m o CART_TO_STOCK (body.Reserve c customer lines) (came h stock_node o.event o.took (body.Reserve c customer lines) for (omega arith) tt CART_TO_STOCK refl) for
 
   failed : (made : Event) (m : MadeAt h stock_node made) (key : ProductKey) (rule : StockRule) → made.body ≡ body.ReserveFailed c key rule
       → (customer : ℕ) × (lines : List PricedLine) × IsCausedBy h stock_node made m CART_TO_STOCK (body.Reserve c customer lines)
@@ -99,7 +99,7 @@ module _ (h : Histories) (lawful : IsLawful h) (c : RequestId) where
       let here = subst (λ l. Member (made.link, body.ReserveFailed c key rule) l) (answers-stock steps o.event.link o.event.body) (among-answers h stock_node made m o (body.ReserveFailed c key rule) is) in
       let for = refused_for (stock_sums steps) o.event.body made.link c key rule here in
       let b = body.Reserve c for.0 for.1 in
-      (for.0, for.1, caused-by h stock_node made m o CART_TO_STOCK b (came h stock_node o.event o.took b for.2 (omega arith) tt 2 refl) for.2)
+      (for.0, for.1, caused-by h stock_node made m o CART_TO_STOCK b (came h stock_node o.event o.took b for.2 (omega arith) tt CART_TO_STOCK refl) for.2)
 
   -- the block of a Reserve
   abbrev Answered : (n : ℕ) (event : Event) → TookAt h n event → ℕ → List PricedLine → Type 0

@@ -159,14 +159,14 @@ module _ (h : Histories) (lawful : IsLawful h) where
           let id_is : id ≡ c = cc in
           let b_is : o.event.body ≡ body.ReserveFailed c key rule = body_is ∙ ap (λ i. body.ReserveFailed i key rule) id_is in
           let reply_is : r ≡ reply.Undone (undone_by_stock rule key) = cc in
-          by_stock key rule reply_is (caused-by h cart_node made m o STOCK_TO_CART (body.ReserveFailed c key rule) (came h cart_node o.event o.took (body.ReserveFailed c key rule) b_is (omega arith) tt 3 refl) b_is)
+          by_stock key rule reply_is (caused-by h cart_node made m o STOCK_TO_CART (body.ReserveFailed c key rule) (came h cart_node o.event o.took (body.ReserveFailed c key rule) b_is (omega arith) tt STOCK_TO_CART refl) b_is)
       told_why (body.ReserveFailed id key rule) body_is (inr never) = absurd never
       told_why (body.Ended id end) body_is (inl e) =
           let same : body.Told c r ≡ body.Told id (reply_to_ending end) = ap (λ (s : Sending). s.1) e in
           let id_is : id ≡ c = cc in
           let b_is : o.event.body ≡ body.Ended c end = body_is ∙ ap (λ i. body.Ended i end) id_is in
           let reply_is : r ≡ reply_to_ending end = cc in
-          by_end end reply_is (caused-by h cart_node made m o ORDER_TO_CART (body.Ended c end) (came h cart_node o.event o.took (body.Ended c end) b_is (omega arith) tt 7 refl) b_is)
+          by_end end reply_is (caused-by h cart_node made m o ORDER_TO_CART (body.Ended c end) (came h cart_node o.event o.took (body.Ended c end) b_is (omega arith) tt ORDER_TO_CART refl) b_is)
       told_why (body.Ended id end) body_is (inr never) = absurd never
       told_why other body_is here = absurd here
 

@@ -9,6 +9,7 @@ use Rattle.market_events.specs.declared.events.What.{What}
 use Rattle.market_events.specs.declared.events.What.TheVariants.{Given, Taken, Made, Answered}
 use Rattle.market_events.specs.declared.links.Link.{Link}
 use Rattle.market_events.specs.declared.links.Link.TheVariants.{Service, Asked, Told}
+use Rattle.market_events.specs.declared.links.TheConstants.{SERVICE_LINKS}
 use Rattle.market_events.specs.declared.nodes.TheConstants.{NODES}
 use Rattle.market_events.specs.declared.requests.Request.{Request}
 use Rattle.market_events.specs.Carried.{carries, asked_of}
@@ -45,9 +46,9 @@ no_request (body.Asked request) other = other request refl
 no_request b other = tt
 
 -- no service link leads to products
-not_to_products : (k : ℕ) → k < 16 → receiver_of (Service k) ≡ product_node → ⊥
+not_to_products : (k : ℕ) → k < SERVICE_LINKS → receiver_of (Service k) ≡ product_node → ⊥
 not_to_products k lt =
-    by_link (λ k. receiver_of (Service k) ≡ product_node → ⊥) (λ e. omega arith) (λ e. omega arith) (λ e. omega arith) (λ e. omega arith) (λ e. omega arith) (λ e. omega arith)
+    by_link (λ l. receiver_of l ≡ product_node → ⊥) (λ e. omega arith) (λ e. omega arith) (λ e. omega arith) (λ e. omega arith) (λ e. omega arith) (λ e. omega arith)
     (λ e. omega arith) (λ e. omega arith) (λ e. omega arith) (λ e. omega arith) (λ e. omega arith) (λ e. omega arith) (λ e. omega arith) (λ e. omega arith)
     (λ e. omega arith) (λ e. omega arith) k lt
 

@@ -7,13 +7,13 @@ use Rattle.market_events.specs.declared.bodies.Body.{Body}
 use Rattle.market_events.specs.declared.bodies.Body.TheVariants as body
 use Rattle.market_events.specs.declared.events.Event.{Event}
 use Rattle.market_events.specs.declared.links.Link.{Link}
-use Rattle.market_events.specs.declared.links.Link.TheVariants.{Service}
 use Rattle.market_events.specs.Carried.{carries}
 use Rattle.market_events.specs.Links.{IsLink, sender_of, receiver_of, order_node, payment_node, shipment_node, customer_node, seller_node}
 use Rattle.market_events.specs.Orders.{ships}
 use Rattle.market_events.specs.Services.{IsRunOf, invoices}
 use Rattle.market_events.specs.Steps.{Step, taken_bodies, made_on}
 use Rattle.market_events.specs.Stocks.{confirms, settles}
+use Rattle.market_events.specs.declared.links.TheConstants.{STOCK_TO_ORDER, ORDER_TO_PAYMENT, ORDER_TO_SELLER, PAYMENT_TO_ORDER, PAYMENT_TO_SHIPMENT, PAYMENT_TO_CUSTOMER, PAYMENT_TO_SELLER, SHIPMENT_TO_ORDER, SHIPMENT_TO_SELLER, SHIPMENT_TO_CUSTOMER}
 use Rattle.market_history.specs.Blocks.{role_at, services}
 use Rattle.market_history.specs.Histories.{Histories, journal_at}
 use Rattle.market_history.specs.Lawful.{IsLawful}
@@ -24,81 +24,81 @@ use Rattle.market_laws.proofs.Origins.Once.{once-service}
 use Rattle.market_laws.proofs.Fits.KindsOnLinks.{came-on}
 
 -- bodies that pass come into the node on this service link alone
-abbrev pub Alone : ℕ → (Body → Bool) → ℕ → Type 0
-Alone s test k = (link : Link) (b : Body) → IsLink link → receiver_of link ≡ s → carries link b ≡ true → test b ≡ true → link ≡ Service k
+abbrev pub Alone : ℕ → (Body → Bool) → Link → Type 0
+Alone s test link = (other : Link) (b : Body) → IsLink other → receiver_of other ≡ s → carries other b ≡ true → test b ≡ true → other ≡ link
 
 -- into payments and shipments
-pub invoice-payment : (id : RequestId) → Alone payment_node (invoices id) 5
+pub invoice-payment : (id : RequestId) → Alone payment_node (invoices id) ORDER_TO_PAYMENT
 invoice-payment id link (body.Invoice checkout customer lines total) is into carried passes =
-    came-on payment_node 5 (body.Invoice checkout customer lines total) (omega arith) tt refl link is into carried
+    came-on payment_node ORDER_TO_PAYMENT (body.Invoice checkout customer lines total) (omega arith) tt refl link is into carried
 invoice-payment id link other is into carried passes = cc
 
-pub confirm-shipment : (id : RequestId) → Alone shipment_node (confirms id) 10
+pub confirm-shipment : (id : RequestId) → Alone shipment_node (confirms id) PAYMENT_TO_SHIPMENT
 confirm-shipment id link (body.Confirmed checkout customer lines total) is into carried passes =
-    came-on shipment_node 10 (body.Confirmed checkout customer lines total) (omega arith) tt refl link is into carried
+    came-on shipment_node PAYMENT_TO_SHIPMENT (body.Confirmed checkout customer lines total) (omega arith) tt refl link is into carried
 confirm-shipment id link other is into carried passes = cc
 
 -- into customers
-pub settle-customer : (id : RequestId) → Alone customer_node (settles id) 11
+pub settle-customer : (id : RequestId) → Alone customer_node (settles id) PAYMENT_TO_CUSTOMER
 settle-customer id link (body.Confirmed checkout customer lines total) is into carried passes =
-    came-on customer_node 11 (body.Confirmed checkout customer lines total) (omega arith) tt refl link is into carried
+    came-on customer_node PAYMENT_TO_CUSTOMER (body.Confirmed checkout customer lines total) (omega arith) tt refl link is into carried
 settle-customer id link (body.Failed checkout customer rule) is into carried passes =
-    came-on customer_node 11 (body.Failed checkout customer rule) (omega arith) tt refl link is into carried
+    came-on customer_node PAYMENT_TO_CUSTOMER (body.Failed checkout customer rule) (omega arith) tt refl link is into carried
 settle-customer id link other is into carried passes = cc
 
-pub delivery-customer : Alone customer_node is_delivery 15
-delivery-customer link (body.Delivered items) is into carried passes = came-on customer_node 15 (body.Delivered items) (omega arith) tt refl link is into carried
+pub delivery-customer : Alone customer_node is_delivery SHIPMENT_TO_CUSTOMER
+delivery-customer link (body.Delivered items) is into carried passes = came-on customer_node SHIPMENT_TO_CUSTOMER (body.Delivered items) (omega arith) tt refl link is into carried
 delivery-customer link other is into carried passes = cc
 
 -- into orders
-pub held-order : (id : RequestId) → Alone order_node (holds_pieces id) 4
+pub held-order : (id : RequestId) → Alone order_node (holds_pieces id) STOCK_TO_ORDER
 held-order id link (body.StockConfirmed checkout customer lines) is into carried passes =
-    came-on order_node 4 (body.StockConfirmed checkout customer lines) (omega arith) tt refl link is into carried
+    came-on order_node STOCK_TO_ORDER (body.StockConfirmed checkout customer lines) (omega arith) tt refl link is into carried
 held-order id link other is into carried passes = cc
 
-pub settle-order : (id : RequestId) → Alone order_node (settles id) 9
+pub settle-order : (id : RequestId) → Alone order_node (settles id) PAYMENT_TO_ORDER
 settle-order id link (body.Confirmed checkout customer lines total) is into carried passes =
-    came-on order_node 9 (body.Confirmed checkout customer lines total) (omega arith) tt refl link is into carried
+    came-on order_node PAYMENT_TO_ORDER (body.Confirmed checkout customer lines total) (omega arith) tt refl link is into carried
 settle-order id link (body.Failed checkout customer rule) is into carried passes =
-    came-on order_node 9 (body.Failed checkout customer rule) (omega arith) tt refl link is into carried
+    came-on order_node PAYMENT_TO_ORDER (body.Failed checkout customer rule) (omega arith) tt refl link is into carried
 settle-order id link other is into carried passes = cc
 
-pub ship-order : (id : RequestId) → Alone order_node (ships id) 13
-ship-order id link (body.Shipped checkout) is into carried passes = came-on order_node 13 (body.Shipped checkout) (omega arith) tt refl link is into carried
+pub ship-order : (id : RequestId) → Alone order_node (ships id) SHIPMENT_TO_ORDER
+ship-order id link (body.Shipped checkout) is into carried passes = came-on order_node SHIPMENT_TO_ORDER (body.Shipped checkout) (omega arith) tt refl link is into carried
 ship-order id link other is into carried passes = cc
 
-pub delivery-order : Alone order_node is_delivery 13
-delivery-order link (body.Delivered items) is into carried passes = came-on order_node 13 (body.Delivered items) (omega arith) tt refl link is into carried
+pub delivery-order : Alone order_node is_delivery SHIPMENT_TO_ORDER
+delivery-order link (body.Delivered items) is into carried passes = came-on order_node SHIPMENT_TO_ORDER (body.Delivered items) (omega arith) tt refl link is into carried
 delivery-order link other is into carried passes = cc
 
 -- into sellers
-pub invoice-seller : (id : RequestId) → Alone seller_node (invoices id) 6
+pub invoice-seller : (id : RequestId) → Alone seller_node (invoices id) ORDER_TO_SELLER
 invoice-seller id link (body.Invoice checkout customer lines total) is into carried passes =
-    came-on seller_node 6 (body.Invoice checkout customer lines total) (omega arith) tt refl link is into carried
+    came-on seller_node ORDER_TO_SELLER (body.Invoice checkout customer lines total) (omega arith) tt refl link is into carried
 invoice-seller id link other is into carried passes = cc
 
-pub settle-seller : (id : RequestId) → Alone seller_node (settles id) 12
+pub settle-seller : (id : RequestId) → Alone seller_node (settles id) PAYMENT_TO_SELLER
 settle-seller id link (body.Confirmed checkout customer lines total) is into carried passes =
-    came-on seller_node 12 (body.Confirmed checkout customer lines total) (omega arith) tt refl link is into carried
+    came-on seller_node PAYMENT_TO_SELLER (body.Confirmed checkout customer lines total) (omega arith) tt refl link is into carried
 settle-seller id link (body.Failed checkout customer rule) is into carried passes =
-    came-on seller_node 12 (body.Failed checkout customer rule) (omega arith) tt refl link is into carried
+    came-on seller_node PAYMENT_TO_SELLER (body.Failed checkout customer rule) (omega arith) tt refl link is into carried
 settle-seller id link other is into carried passes = cc
 
-pub ship-seller : (id : RequestId) → Alone seller_node (ships id) 14
-ship-seller id link (body.Shipped checkout) is into carried passes = came-on seller_node 14 (body.Shipped checkout) (omega arith) tt refl link is into carried
+pub ship-seller : (id : RequestId) → Alone seller_node (ships id) SHIPMENT_TO_SELLER
+ship-seller id link (body.Shipped checkout) is into carried passes = came-on seller_node SHIPMENT_TO_SELLER (body.Shipped checkout) (omega arith) tt refl link is into carried
 ship-seller id link other is into carried passes = cc
 
-pub delivery-seller : Alone seller_node is_delivery 14
-delivery-seller link (body.Delivered items) is into carried passes = came-on seller_node 14 (body.Delivered items) (omega arith) tt refl link is into carried
+pub delivery-seller : Alone seller_node is_delivery SHIPMENT_TO_SELLER
+delivery-seller link (body.Delivered items) is into carried passes = came-on seller_node SHIPMENT_TO_SELLER (body.Delivered items) (omega arith) tt refl link is into carried
 delivery-seller link other is into carried passes = cc
 
 -- the link of an event of a kind that comes on one link alone
-pub came-alone : (h : Histories) (s : ℕ) (event : Event) (t : TookAt h s event) (test : Body → Bool) (k : ℕ) → Alone s test k → test event.body ≡ true → event.link ≡ Service k
-came-alone h s event t test k alone passes = alone event.link event.body t.ready.0 t.ready.1 t.ready.2 passes
+pub came-alone : (h : Histories) (s : ℕ) (event : Event) (t : TookAt h s event) (test : Body → Bool) (link : Link) → Alone s test link → test event.body ≡ true → event.link ≡ link
+came-alone h s event t test link alone passes = alone event.link event.body t.ready.0 t.ready.1 t.ready.2 passes
 
 -- none of a kind that comes on one link alone was taken before, where a run of the sender makes one of it at most
-pub none-taken : (h : Histories) (s : ℕ) (event : Event) → IsLawful h → (t : TookAt h s event) (k n : ℕ) → sender_of (Service k) ≡ n → n < services → (test : Body → Bool) → Alone s test k
-    → test event.body ≡ true → ((steps : List Step) → IsRunOf (role_at n) steps → count_by test (made_on (Service k) steps) ≤ 1) → list_any test (taken_bodies (steps_at s t.before)) ≡ false
-none-taken h s event lawful t k n leaves lt test alone passes few =
-    once-service h s event lawful t k n (came-alone h s event t test k alone passes) leaves lt test (few (steps_at n (journal_at h n)) (steps-run n (journal_at h n))) passes
-    (λ link b is into carried own also. alone link b is into carried also)
+pub none-taken : (h : Histories) (s : ℕ) (event : Event) → IsLawful h → (t : TookAt h s event) (link : Link) (n : ℕ) → sender_of link ≡ n → n < services → (test : Body → Bool) → Alone s test link
+    → test event.body ≡ true → ((steps : List Step) → IsRunOf (role_at n) steps → count_by test (made_on link steps) ≤ 1) → list_any test (taken_bodies (steps_at s t.before)) ≡ false
+none-taken h s event lawful t link n leaves lt test alone passes few =
+    once-service h s event lawful t link n (came-alone h s event t test link alone passes) leaves lt test (few (steps_at n (journal_at h n)) (steps-run n (journal_at h n))) passes
+    (λ other b is into carried own also. alone other b is into carried also)

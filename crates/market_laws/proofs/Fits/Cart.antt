@@ -38,9 +38,9 @@ IsSentFor id b = (customer : ℕ) × (lines : List PricedLine) × (b ≡ body.Re
 
 module _ (h : Histories) (lawful : IsLawful h) (event : Event) (t : TookAt h cart_node event) where
   -- what the cart sent on before it made before
-  was_sent : (id : RequestId) (customer : ℕ) (lines : List PricedLine) → MadeBefore h cart_node 2 (body.Reserve id customer lines) t.clock → list_any (reserves id) (made_on CART_TO_STOCK (steps_at cart_node t.before)) ≡ true
+  was_sent : (id : RequestId) (customer : ℕ) (lines : List PricedLine) → MadeBefore h cart_node CART_TO_STOCK (body.Reserve id customer lines) t.clock → list_any (reserves id) (made_on CART_TO_STOCK (steps_at cart_node t.before)) ≡ true
   was_sent id customer lines m =
-      any_of_member (reserves id) m.event.body (made_on CART_TO_STOCK (steps_at cart_node t.before)) (made-before h lawful cart_node (omega arith) event t m.event 2 m.made m.clock m.on)
+      any_of_member (reserves id) m.event.body (made_on CART_TO_STOCK (steps_at cart_node t.before)) (made-before h lawful cart_node (omega arith) event t m.event CART_TO_STOCK m.made m.clock m.on)
       (ap (reserves id) m.body_is ∙ same_id-self id)
 
   -- where one end comes at most on its link, and none can have come on the other, none came before
@@ -55,14 +55,14 @@ module _ (h : Histories) (lawful : IsLawful h) (event : Event) (t : TookAt h car
 
   module _ (checkout : RequestId) (key : ProductKey) (rule : StockRule) (is : event.body ≡ body.ReserveFailed checkout key rule) where
     failed_on : event.link ≡ STOCK_TO_CART
-    failed_on = came h cart_node event t (body.ReserveFailed checkout key rule) is (omega arith) tt 3 refl
+    failed_on = came h cart_node event t (body.ReserveFailed checkout key rule) is (omega arith) tt STOCK_TO_CART refl
 
-    failed_made : MadeBefore h stock_node 3 (body.ReserveFailed checkout key rule) t.clock
-    failed_made = taken-sent h lawful cart_node 3 stock_node event t failed_on refl (body.ReserveFailed checkout key rule) is t.clock (omega arith)
+    failed_made : MadeBefore h stock_node STOCK_TO_CART (body.ReserveFailed checkout key rule) t.clock
+    failed_made = taken-sent h lawful cart_node STOCK_TO_CART stock_node event t failed_on refl (body.ReserveFailed checkout key rule) is t.clock (omega arith)
 
     failed_sent : list_any (reserves checkout) (made_on CART_TO_STOCK (steps_at cart_node t.before)) ≡ true
     failed_sent =
-        let found = sent-origin-some h lawful stock_node 3 (body.ReserveFailed checkout key rule) t.clock (omega arith) failed_made (IsSentFor checkout)
+        let found = sent-origin-some h lawful stock_node STOCK_TO_CART (body.ReserveFailed checkout key rule) t.clock (omega arith) failed_made (IsSentFor checkout)
         (λ steps run here. let f = failed-reserve steps run checkout key rule here in (body.Reserve checkout f.0 f.1, f.2, (f.0, f.1, refl))) in
         let for = found.2 in
         was_sent checkout for.0 for.1 (sent-of-stock h lawful checkout for.0 for.1 t.clock (subst (λ c. TookBefore h stock_node t.clock c) for.2 found.1))
@@ -75,12 +75,12 @@ module _ (h : Histories) (lawful : IsLawful h) (event : Event) (t : TookAt h car
 
         by : (other : Event) → (u : TookAt h cart_node other) → u.clock < t.clock → (b : Body) → other.body ≡ b → ends checkout b ≡ true → ⊥
         by other u less (body.ReserveFailed id k r) same ended =
-            once-link h cart_node event lawful t (ends checkout) (few-service h cart_node event lawful t 3 stock_node failed_on refl (omega arith) (ends checkout) few)
+            once-link h cart_node event lawful t (ends checkout) (few-service h cart_node event lawful t STOCK_TO_CART stock_node failed_on refl (omega arith) (ends checkout) few)
             (ap (ends checkout) is ∙ same_id-self checkout) other u less
-            (came h cart_node other u (body.ReserveFailed id k r) same (omega arith) tt 3 refl ∙ sym failed_on) (ap (ends checkout) same ∙ ended)
+            (came h cart_node other u (body.ReserveFailed id k r) same (omega arith) tt STOCK_TO_CART refl ∙ sym failed_on) (ap (ends checkout) same ∙ ended)
         by other u less (body.Ended id ending) same ended =
-            let on : other.link ≡ ORDER_TO_CART = came h cart_node other u (body.Ended id ending) same (omega arith) tt 7 refl in
-            let m = taken-sent h lawful cart_node 7 order_node other u on refl (body.Ended id ending) same u.clock (omega arith) in
+            let on : other.link ≡ ORDER_TO_CART = came h cart_node other u (body.Ended id ending) same (omega arith) tt ORDER_TO_CART refl in
+            let m = taken-sent h lawful cart_node ORDER_TO_CART order_node other u on refl (body.Ended id ending) same u.clock (omega arith) in
             let held = held-of-ended h lawful checkout (body.Ended id ending) u.clock m ended in
             held-or-failed h lawful checkout held.customer held.lines u.clock (body.ReserveFailed checkout key rule) t.clock held.made failed_made (same_id-self checkout)
         by other u less b same ended = cc
@@ -92,12 +92,12 @@ module _ (h : Histories) (lawful : IsLawful h) (event : Event) (t : TookAt h car
 
   module _ (checkout : RequestId) (ending : Ending) (is : event.body ≡ body.Ended checkout ending) where
     ended_on : event.link ≡ ORDER_TO_CART
-    ended_on = came h cart_node event t (body.Ended checkout ending) is (omega arith) tt 7 refl
+    ended_on = came h cart_node event t (body.Ended checkout ending) is (omega arith) tt ORDER_TO_CART refl
 
     ended_held : HeldBefore h checkout t.clock
     ended_held =
         held-of-ended h lawful checkout (body.Ended checkout ending) t.clock
-        (taken-sent h lawful cart_node 7 order_node event t ended_on refl (body.Ended checkout ending) is t.clock (omega arith)) (same_id-self checkout)
+        (taken-sent h lawful cart_node ORDER_TO_CART order_node event t ended_on refl (body.Ended checkout ending) is t.clock (omega arith)) (same_id-self checkout)
 
     ended_sent : list_any (reserves checkout) (made_on CART_TO_STOCK (steps_at cart_node t.before)) ≡ true
     ended_sent =
@@ -112,14 +112,14 @@ module _ (h : Histories) (lawful : IsLawful h) (event : Event) (t : TookAt h car
 
         by : (other : Event) → (u : TookAt h cart_node other) → u.clock < t.clock → (b : Body) → other.body ≡ b → ends checkout b ≡ true → ⊥
         by other u less (body.ReserveFailed id k r) same ended =
-            let on : other.link ≡ STOCK_TO_CART = came h cart_node other u (body.ReserveFailed id k r) same (omega arith) tt 3 refl in
-            let m = taken-sent h lawful cart_node 3 stock_node other u on refl (body.ReserveFailed id k r) same u.clock (omega arith) in
+            let on : other.link ≡ STOCK_TO_CART = came h cart_node other u (body.ReserveFailed id k r) same (omega arith) tt STOCK_TO_CART refl in
+            let m = taken-sent h lawful cart_node STOCK_TO_CART stock_node other u on refl (body.ReserveFailed id k r) same u.clock (omega arith) in
             let held = ended_held in
             held-or-failed h lawful checkout held.customer held.lines t.clock (body.ReserveFailed id k r) u.clock held.made m ended
         by other u less (body.Ended id e) same ended =
-            once-link h cart_node event lawful t (ends checkout) (few-service h cart_node event lawful t 7 order_node ended_on refl (omega arith) (ends checkout) few)
+            once-link h cart_node event lawful t (ends checkout) (few-service h cart_node event lawful t ORDER_TO_CART order_node ended_on refl (omega arith) (ends checkout) few)
             (ap (ends checkout) is ∙ same_id-self checkout) other u less
-            (came h cart_node other u (body.Ended id e) same (omega arith) tt 7 refl ∙ sym ended_on) (ap (ends checkout) same ∙ ended)
+            (came h cart_node other u (body.Ended id e) same (omega arith) tt ORDER_TO_CART refl ∙ sym ended_on) (ap (ends checkout) same ∙ ended)
         by other u less b same ended = cc
 
     -- the end of a checkout that order ended fits

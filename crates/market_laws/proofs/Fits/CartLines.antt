@@ -10,13 +10,13 @@ use Rattle.market_events.specs.declared.changes.Change.{Change}
 use Rattle.market_events.specs.declared.changes.Change.TheVariants as change
 use Rattle.market_events.specs.declared.changes.Look.{Look}
 use Rattle.market_events.specs.declared.changes.Look.TheVariants.{Unknown, Gone, Live}
-use Rattle.market_events.specs.declared.links.Link.TheVariants.{Service}
-use Rattle.market_events.specs.declared.links.TheConstants.{PRODUCT_TO_CART}
+use Rattle.market_events.specs.declared.links.TheConstants.{PRODUCT_TO_CART, PRODUCT_TO_STOCK}
 use Rattle.market_events.specs.declared.replies.Reply.{Reply}
 use Rattle.market_events.specs.declared.replies.Reply.TheVariants as reply
 use Rattle.market_events.specs.declared.replies.Rule.TheVariants as rule
 use Rattle.market_events.specs.declared.requests.Ask.{Ask}
 use Rattle.market_events.specs.declared.requests.Ask.TheVariants as ask
+use Rattle.market_events.specs.declared.links.Link.{Link}
 use Rattle.market_events.specs.Carts.{Held, CartSums, has_key, view_rows, line_rows, priced_by, priced, checkout_rows, first_gone, cart_asked, cart_rows}
 use Rattle.market_events.specs.Links.{cart_node, product_node, same_link}
 use Rattle.market_events.specs.Looks.{is_live}
@@ -86,7 +86,7 @@ cart-sends-live s other = tt
 -- products tell a change to stock, to the cart and to a lane; or nothing to the cart
 data TellsChange (made : List Sending) : Type 0 where
   change_of : (id : RequestId) (key : ProductKey) (version : ℕ) (c : Change) (r : Reply) → made ≡ changed id key version c r → TellsChange made
-  nothing_to_cart : on 0 made ≡ [] → TellsChange made
+  nothing_to_cart : on PRODUCT_TO_CART made ≡ [] → TellsChange made
 
 product_tells : (s : ProductSums) (b : Body) → TellsChange (product_rows s b)
 product_tells s (body.Asked request) = asked request.id request.ask
@@ -117,31 +117,31 @@ product_tells s other = nothing_to_cart refl
 other_sending : (a b : Sending) → a ≡ b → same_link a.0 PRODUCT_TO_CART ≡ false → same_link b.0 PRODUCT_TO_CART ≡ true → ⊥
 other_sending a b same apart together = let moved = ap (λ (s : Sending). same_link s.0 PRODUCT_TO_CART) same in cc
 
--- a body on a service link
-abbrev on_link : ℕ → Body → Sending
-on_link n b = (Service n, b)
+-- a body on a link
+abbrev on_link : Link → Body → Sending
+on_link link b = (link, b)
 
 -- what a change makes before the cart is told
-before_cart : (id : RequestId) (key : ProductKey) (version : ℕ) (c : Change) (r : Reply) (x : Body) (front back : List Sending) → changed id key version c r ≡ front ++ on_link 0 x ∷ back → front ≡ on_link 1 x ∷ []
+before_cart : (id : RequestId) (key : ProductKey) (version : ℕ) (c : Change) (r : Reply) (x : Body) (front back : List Sending) → changed id key version c r ≡ front ++ on_link PRODUCT_TO_CART x ∷ back → front ≡ on_link PRODUCT_TO_STOCK x ∷ []
 before_cart id key version c r x [] back e =
-    let head : on_link 1 (body.Changed key version c) ≡ on_link 0 x = cc in
-    absurd (other_sending (on_link 1 (body.Changed key version c)) (on_link 0 x) head refl refl)
+    let head : on_link PRODUCT_TO_STOCK (body.Changed key version c) ≡ on_link PRODUCT_TO_CART x = cc in
+    absurd (other_sending (on_link PRODUCT_TO_STOCK (body.Changed key version c)) (on_link PRODUCT_TO_CART x) head refl refl)
 before_cart id key version c r x (a ∷ []) back e =
-    let head : on_link 1 (body.Changed key version c) ≡ a = cc in
-    let next : on_link 0 (body.Changed key version c) ≡ on_link 0 x = cc in
+    let head : on_link PRODUCT_TO_STOCK (body.Changed key version c) ≡ a = cc in
+    let next : on_link PRODUCT_TO_CART (body.Changed key version c) ≡ on_link PRODUCT_TO_CART x = cc in
     let same : body.Changed key version c ≡ x = ap (λ (s : Sending). s.1) next in
-    ap (λ s. s ∷ []) (sym head ∙ ap (on_link 1) same)
+    ap (λ s. s ∷ []) (sym head ∙ ap (on_link PRODUCT_TO_STOCK) same)
 before_cart id key version c r x (a ∷ b ∷ []) back e =
-    let last : told product_node id r ≡ on_link 0 x = cc in
-    absurd (other_sending (told product_node id r) (on_link 0 x) last refl refl)
+    let last : told product_node id r ≡ on_link PRODUCT_TO_CART x = cc in
+    absurd (other_sending (told product_node id r) (on_link PRODUCT_TO_CART x) last refl refl)
 before_cart id key version c r x (a ∷ b ∷ d ∷ front) back e =
-    let rest : [] ≡ front ++ on_link 0 x ∷ back = cc in
-    absurd (no_place front (on_link 0 x) back rest)
+    let rest : [] ≡ front ++ on_link PRODUCT_TO_CART x ∷ back = cc in
+    absurd (no_place front (on_link PRODUCT_TO_CART x) back rest)
 
 -- what products make before the cart is told
-pub change-pair : (s : ProductSums) (b x : Body) (front back : List Sending) → product_rows s b ≡ front ++ on_link 0 x ∷ back → front ≡ on_link 1 x ∷ []
+pub change-pair : (s : ProductSums) (b x : Body) (front back : List Sending) → product_rows s b ≡ front ++ on_link PRODUCT_TO_CART x ∷ back → front ≡ on_link PRODUCT_TO_STOCK x ∷ []
 change-pair s b x front back e = by (product_tells s b)
   where
-    by : TellsChange (product_rows s b) → front ≡ on_link 1 x ∷ []
+    by : TellsChange (product_rows s b) → front ≡ on_link PRODUCT_TO_STOCK x ∷ []
     by (change_of id key version c r is) = before_cart id key version c r x front back (sym is ∙ e)
-    by (nothing_to_cart none) = absurd (no_place (on 0 front) x (on 0 back) (sym none ∙ ap (on 0) e ∙ gathered-here (body_on PRODUCT_TO_CART) front (on_link 0 x) back x refl))
+    by (nothing_to_cart none) = absurd (no_place (on PRODUCT_TO_CART front) x (on PRODUCT_TO_CART back) (sym none ∙ ap (on PRODUCT_TO_CART) e ∙ gathered-here (body_on PRODUCT_TO_CART) front (on_link PRODUCT_TO_CART x) back x refl))

@@ -12,7 +12,6 @@ use Rattle.market_events.specs.declared.events.Event.{Event}
 use Rattle.market_events.specs.declared.events.What.{What}
 use Rattle.market_events.specs.declared.events.What.TheVariants.{Given, Taken, Made, Answered}
 use Rattle.market_events.specs.declared.links.Link.{Link}
-use Rattle.market_events.specs.declared.links.Link.TheVariants.{Service}
 use Rattle.market_events.specs.Links.{sender_of, same_link, shipment_node}
 use Rattle.market_events.specs.Orders.{items_in, items_taken, ships, is_taken}
 use Rattle.market_events.specs.declared.roles.Role.{Role}
@@ -35,7 +34,7 @@ use Rattle.market_laws.proofs.Origins.Made.{steps-run, whole, all-below}
 use Rattle.market_laws.proofs.Origins.Senders.{sent-bodies-on}
 use Rattle.market_laws.proofs.Fits.AloneOnLinks.{Alone}
 use Rattle.market_laws.proofs.Runs.Apart.{apart-append, apart-items, items-once}
-use Rattle.market_laws.proofs.Runs.Shipments.{deliveries-15, shipments-14}
+use Rattle.market_laws.proofs.Runs.Shipments.{deliveries-to-customer, shipments-to-seller}
 use Rattle.market_laws.proofs.Views.Links.{gathered-got}
 
 -- the items of deliveries alone
@@ -48,11 +47,11 @@ kept_items (b ∷ bs) = by b (kept_items bs)
     by other rest = rest
 
 -- shipments deliver no item twice on each of their links
-pub items_once-13 : (steps : List Step) → IsRunOf Role.Shipment steps → lines_apart [] (flat_map items_in (made_on SHIPMENT_TO_ORDER steps)) ≡ true
-items_once-13 steps run = ap (lines_apart []) (sym (ap (flat_map items_in) (deliveries-15 steps run) ∙ kept_items (made_on SHIPMENT_TO_ORDER steps))) ∙ items-once steps run
+pub items_once-order : (steps : List Step) → IsRunOf Role.Shipment steps → lines_apart [] (flat_map items_in (made_on SHIPMENT_TO_ORDER steps)) ≡ true
+items_once-order steps run = ap (lines_apart []) (sym (ap (flat_map items_in) (deliveries-to-customer steps run) ∙ kept_items (made_on SHIPMENT_TO_ORDER steps))) ∙ items-once steps run
 
-pub items_once-14 : (steps : List Step) → IsRunOf Role.Shipment steps → lines_apart [] (flat_map items_in (made_on SHIPMENT_TO_SELLER steps)) ≡ true
-items_once-14 steps run = ap (λ bs. lines_apart [] (flat_map items_in bs)) (sym (shipments-14 steps run)) ∙ items_once-13 steps run
+pub items_once-seller : (steps : List Step) → IsRunOf Role.Shipment steps → lines_apart [] (flat_map items_in (made_on SHIPMENT_TO_SELLER steps)) ≡ true
+items_once-seller steps run = ap (λ bs. lines_apart [] (flat_map items_in bs)) (sym (shipments-to-seller steps run)) ∙ items_once-order steps run
 
 -- the items of a delivery
 abbrev delivery_in : Body → Option (List Item)
@@ -70,10 +69,10 @@ gathered_items (b ∷ bs) = by b (gathered_items bs)
     by other rest = rest
 
 -- no delivery comes on another link
-elsewhere : (other : Link) (k : ℕ) (b : Body) → (is_delivery b ≡ true → other ≡ Service k) → same_link other (Service k) ≡ false → delivery_in b ≡ None
-elsewhere other k (body.Delivered items) on differs =
-    let same : same_link other (Service k) ≡ true = ap (λ l. same_link l (Service k)) (on refl) ∙ same_link-same (Service k) in cc
-elsewhere other k b on differs = refl
+elsewhere : (other link : Link) (b : Body) → (is_delivery b ≡ true → other ≡ link) → same_link other link ≡ false → delivery_in b ≡ None
+elsewhere other link (body.Delivered items) on differs =
+    let same : same_link other link ≡ true = ap (λ l. same_link l link) (on refl) ∙ same_link-same link in cc
+elsewhere other link b on differs = refl
 
 -- what came on a link is among what was taken
 pub got_taken : (link : Link) (b : Body) (j : List Entry) → Member b (map (λ (e : Event). e.body) (got link j)) → Member b (map (λ (e : Event). e.body) (events_taken j))
@@ -96,32 +95,32 @@ got_taken link b (x ∷ xs) here = by x.what here (λ more. got_taken link b xs 
     by (Made event) here rest = rest here
     by (Answered id reply) here rest = rest here
 
-module _ (h : Histories) (s : ℕ) (event : Event) (lawful : IsLawful h) (t : TookAt h s event) (k : ℕ) (on : event.link ≡ Service k) where
+module _ (h : Histories) (s : ℕ) (event : Event) (lawful : IsLawful h) (t : TookAt h s event) (link : Link) (on : event.link ≡ link) where
   -- what its sender made on its link: what came on it before, and then this event's body
-  pub made-around : (n : ℕ) → n < services → sender_of (Service k) ≡ n
-      → (rest : List Body) × (made_on (Service k) (steps_at n (journal_at h n)) ≡ map (λ (e : Event). e.body) (got (Service k) t.before) ++ event.body ∷ rest)
+  pub made-around : (n : ℕ) → n < services → sender_of link ≡ n
+      → (rest : List Body) × (made_on link (steps_at n (journal_at h n)) ≡ map (λ (e : Event). e.body) (got link t.before) ++ event.body ∷ rest)
   made-around n lt leaves =
-      let there = sent-bodies-on h lawful s event (Service k) t on in
-      (there.0, sym (whole h lawful n lt (Service k)) ∙ ap (λ m. bodies_on (Service k) (journal_at h m)) (sym leaves) ∙ there.1)
+      let there = sent-bodies-on h lawful s event link t on in
+      (there.0, sym (whole h lawful n lt link) ∙ ap (λ m. bodies_on link (journal_at h m)) (sym leaves) ∙ there.1)
 
-  module _ (lt : s < services) (below : FitsBelow h t.clock) (leaves : sender_of (Service k) ≡ shipment_node) (items : List Item) (is : event.body ≡ body.Delivered items) where
+  module _ (lt : s < services) (below : FitsBelow h t.clock) (leaves : sender_of link ≡ shipment_node) (items : List Item) (is : event.body ≡ body.Delivered items) where
     -- the items that the node took before are those that came on this link
-    items_before : Alone s is_delivery k → items_taken (steps_at s t.before) ≡ flat_map items_in (map (λ (e : Event). e.body) (got (Service k) t.before))
+    items_before : Alone s is_delivery link → items_taken (steps_at s t.before) ≡ flat_map items_in (map (λ (e : Event). e.body) (got link t.before))
     items_before alone =
         ap (flat_map items_in) (all-below h lawful s lt event t below)
         ∙ gathered_items (map (λ (e : Event). e.body) (events_taken t.before))
         ∙ ap (flat_map (λ (items : List Item). items))
-        (gathered-got delivery_in s (Service k) t.grown (λ other b is into carried differs. elsewhere other k b (λ delivers. alone other b is into carried delivers) differs))
-        ∙ sym (gathered_items (map (λ (e : Event). e.body) (got (Service k) t.before)))
+        (gathered-got delivery_in s link t.grown (λ other b is into carried differs. elsewhere other link b (λ delivers. alone other b is into carried delivers) differs))
+        ∙ sym (gathered_items (map (λ (e : Event). e.body) (got link t.before)))
 
     -- no item of a delivery was delivered before
-    pub apart-before : ((steps : List Step) → IsRunOf Role.Shipment steps → lines_apart [] (flat_map items_in (made_on (Service k) steps)) ≡ true) → Alone s is_delivery k
+    pub apart-before : ((steps : List Step) → IsRunOf Role.Shipment steps → lines_apart [] (flat_map items_in (made_on link steps)) ≡ true) → Alone s is_delivery link
         → items_apart (items_taken (steps_at s t.before)) items ≡ true
     apart-before once alone =
         let around = made-around shipment_node (omega arith) leaves in
-        let first = map (λ (e : Event). e.body) (got (Service k) t.before) in
+        let first = map (λ (e : Event). e.body) (got link t.before) in
         let more = flat_map items_in around.0 in
-        let parts : flat_map items_in (made_on (Service k) (steps_at shipment_node (journal_at h shipment_node))) ≡ flat_map items_in first ++ (items ++ more) =
+        let parts : flat_map items_in (made_on link (steps_at shipment_node (journal_at h shipment_node))) ≡ flat_map items_in first ++ (items ++ more) =
         ap (flat_map items_in) around.1 ∙ flat_map-append items_in first (event.body ∷ around.0) ∙ ap (λ b. flat_map items_in first ++ (items_in b ++ more)) is in
         let all : lines_apart [] (flat_map items_in first ++ (items ++ more)) ≡ true =
         ap (lines_apart []) (sym parts) ∙ once (steps_at shipment_node (journal_at h shipment_node)) (steps-run shipment_node (journal_at h shipment_node)) in
@@ -130,12 +129,12 @@ module _ (h : Histories) (s : ℕ) (event : Event) (lawful : IsLawful h) (t : To
         ap (λ l. items_apart l items) (items_before alone) ∙ apart-items (flat_map items_in first) items here.0
 
     -- a checkout of an item of a delivery was shipped before
-    pub shipped-before : ((steps : List Step) → IsRunOf Role.Shipment steps → (xs ys : List Body) → made_on (Service k) steps ≡ xs ++ body.Delivered items ∷ ys → (item : Item) → Member item items → Member (body.Shipped item.checkout) xs)
+    pub shipped-before : ((steps : List Step) → IsRunOf Role.Shipment steps → (xs ys : List Body) → made_on link steps ≡ xs ++ body.Delivered items ∷ ys → (item : Item) → Member item items → Member (body.Shipped item.checkout) xs)
         → (item : Item) → Member item items → is_taken ships (steps_at s t.before) item.checkout ≡ true
     shipped-before shipped item here =
         let around = made-around shipment_node (omega arith) leaves in
-        let first = map (λ (e : Event). e.body) (got (Service k) t.before) in
+        let first = map (λ (e : Event). e.body) (got link t.before) in
         let came : Member (body.Shipped item.checkout) first =
         shipped (steps_at shipment_node (journal_at h shipment_node)) (steps-run shipment_node (journal_at h shipment_node)) first around.0 (around.1 ∙ ap (λ b. first ++ b ∷ around.0) is) item here in
         any_of_member (ships item.checkout) (body.Shipped item.checkout) (taken_bodies (steps_at s t.before))
-        (subst (λ l. Member (body.Shipped item.checkout) l) (sym (all-below h lawful s lt event t below)) (got_taken (Service k) (body.Shipped item.checkout) t.before came)) (same_id-self item.checkout)
+        (subst (λ l. Member (body.Shipped item.checkout) l) (sym (all-below h lawful s lt event t below)) (got_taken link (body.Shipped item.checkout) t.before came)) (same_id-self item.checkout)

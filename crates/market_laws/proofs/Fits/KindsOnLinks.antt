@@ -9,8 +9,10 @@ use Rattle.market_events.specs.declared.events.Event.{Event}
 use Rattle.market_events.specs.declared.links.Link.{Link}
 use Rattle.market_events.specs.declared.links.Link.TheVariants.{Service, Asked, Told}
 use Rattle.market_events.specs.Carried.{service_carries, asked_of, carries}
-use Rattle.market_events.specs.Links.{IsLink, receiver_of}
+use Rattle.market_events.specs.Links.{IsLink, receiver_of, same_link}
+use Rattle.market_events.specs.declared.links.TheConstants.{SERVICE_LINKS}
 use Rattle.market_events.proofs.Values.Lists.{and_both}
+use Rattle.market_events.proofs.Values.Offers.{same_link-true}
 use Rattle.market_history.specs.Blocks.{services}
 use Rattle.market_history.specs.Histories.{Histories}
 use Rattle.market_laws.specs.Cuts.{TookAt}
@@ -33,37 +35,57 @@ below_all-each test (suc m) all n lt = let both = and_both (below_all test m) (t
     by true is last rest = ap test (eqb-true n m is) ∙ last
     by false is last rest = rest (let differs = eqb-false n m is in grind (arith, nat_tests))
 
--- where the service link n leads into s and carries the body, it is link k
-abbrev pub comes_on : ℕ → ℕ → Body → ℕ → Bool
-comes_on s k b n = not ((receiver_of (Service n) == s) && service_carries (Service n) b) || (n == k)
+-- where the service link n leads into s and carries the body, it is this link
+abbrev pub comes_on : ℕ → Link → Body → ℕ → Bool
+comes_on s link b n = not ((receiver_of (Service n) == s) && service_carries (Service n) b) || same_link (Service n) link
+
+-- the service link n does not lead into s and carry the body
+abbrev comes_not : ℕ → Body → ℕ → Bool
+comes_not s b n = not ((receiver_of (Service n) == s) && service_carries (Service n) b)
+
+-- of the service links into s this one alone carries the body
+abbrev pub ComesBy : ℕ → Link → Body → Type 0
+ComesBy s link b = below_all (comes_on s link b) SERVICE_LINKS ≡ true
+
+-- no service link into s carries the body
+abbrev pub NeverComes : ℕ → Body → Type 0
+NeverComes s b = below_all (comes_not s b) SERVICE_LINKS ≡ true
 
 last_holds : (a b c : Bool) → (not (a && b) || c) ≡ true → a ≡ true → b ≡ true → c ≡ true
 last_holds true true c all first second = all
 last_holds true false c all first second = cc
 last_holds false b c all first second = cc
 
+both_hold : (a b : Bool) → not (a && b) ≡ true → a ≡ true → b ≡ true → ⊥
+both_hold true true none first second = cc
+both_hold true false none first second = cc
+both_hold false b none first second = cc
+
 not_asked : (service : ℕ) (b : Body) → IsNoRequest b → asked_of service b ≡ true → ⊥
 not_asked service (body.Asked request) quiet carried = quiet
 not_asked service other quiet carried = cc
 
--- the link of a body that comes into a service on link k alone
-pub came-on : (s k : ℕ) (b : Body) → s < services → IsNoRequest b → below_all (comes_on s k b) 16 ≡ true → (link : Link) → IsLink link → receiver_of link ≡ s → carries link b ≡ true → link ≡ Service k
-came-on s k b small quiet only (Service n) on into carried =
-    let each : comes_on s k b n ≡ true = below_all-each (comes_on s k b) 16 only n on in
-    let same : (n == k) ≡ true = last_holds (receiver_of (Service n) == s) (service_carries (Service n) b) (n == k) each (eq-eqb (receiver_of (Service n)) s into) carried in
-    ap Service (eqb-true n k same)
-came-on s k b small quiet only (Asked lane service) on into carried = absurd (not_asked service b quiet carried)
-came-on s k b small quiet only (Told service lane) on into carried = absurd (omega arith)
+-- the link of a body that comes into a service on this one alone
+pub came-on : (s : ℕ) (link : Link) (b : Body) → s < services → IsNoRequest b → ComesBy s link b → (other : Link) → IsLink other → receiver_of other ≡ s → carries other b ≡ true → other ≡ link
+came-on s link b small quiet only (Service n) on into carried =
+    let each : comes_on s link b n ≡ true = below_all-each (comes_on s link b) SERVICE_LINKS only n on in
+    let same : same_link (Service n) link ≡ true = last_holds (receiver_of (Service n) == s) (service_carries (Service n) b) (same_link (Service n) link) each (eq-eqb (receiver_of (Service n)) s into) carried in
+    same_link-true (Service n) link same
+came-on s link b small quiet only (Asked lane service) on into carried = absurd (not_asked service b quiet carried)
+came-on s link b small quiet only (Told service lane) on into carried = absurd (omega arith)
 
 -- a body that does not come into a service
-pub came-never : (s : ℕ) (b : Body) → s < services → IsNoRequest b → below_all (comes_on s 16 b) 16 ≡ true → (link : Link) → IsLink link → receiver_of link ≡ s → carries link b ≡ true → ⊥
-came-never s b small quiet none link on into carried =
-    let no : 16 < 16 = subst (λ l. IsLink l) (came-on s 16 b small quiet none link on into carried) on in omega arith
+pub came-never : (s : ℕ) (b : Body) → s < services → IsNoRequest b → NeverComes s b → (link : Link) → IsLink link → receiver_of link ≡ s → carries link b ≡ true → ⊥
+came-never s b small quiet none (Service n) on into carried =
+    let each : comes_not s b n ≡ true = below_all-each (comes_not s b) SERVICE_LINKS none n on in
+    both_hold (receiver_of (Service n) == s) (service_carries (Service n) b) each (eq-eqb (receiver_of (Service n)) s into) carried
+came-never s b small quiet none (Asked lane service) on into carried = not_asked service b quiet carried
+came-never s b small quiet none (Told service lane) on into carried = absurd (omega arith)
 
 module _ (h : Histories) (s : ℕ) (event : Event) (t : TookAt h s event) (b : Body) (is : event.body ≡ b) (small : s < services) (quiet : IsNoRequest b) where
   -- the same of an event that was taken
-  pub came : (k : ℕ) → below_all (comes_on s k b) 16 ≡ true → event.link ≡ Service k
-  came k only = came-on s k b small quiet only event.link t.ready.0 t.ready.1 (subst (λ c. carries event.link c ≡ true) is t.ready.2)
+  pub came : (link : Link) → ComesBy s link b → event.link ≡ link
+  came link only = came-on s link b small quiet only event.link t.ready.0 t.ready.1 (subst (λ c. carries event.link c ≡ true) is t.ready.2)
 
-  pub never-came : below_all (comes_on s 16 b) 16 ≡ true → ⊥
+  pub never-came : NeverComes s b → ⊥
   never-came none = came-never s b small quiet none event.link t.ready.0 t.ready.1 (subst (λ c. carries event.link c ≡ true) is t.ready.2)

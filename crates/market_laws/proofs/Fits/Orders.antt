@@ -12,7 +12,7 @@ use Rattle.market_events.specs.declared.events.Event.{Event}
 use Rattle.market_events.specs.declared.links.TheConstants.{STOCK_TO_ORDER, PAYMENT_TO_ORDER}
 use Rattle.market_events.specs.declared.links.TheConstants.{SHIPMENT_TO_ORDER}
 use Rattle.market_events.specs.declared.requests.Request.{Request}
-use Rattle.market_events.specs.Links.{stock_node, order_node, payment_node, shipment_node}
+use Rattle.market_events.specs.Links.{stock_node, order_node, payment_node, shipment_node, index_of}
 use Rattle.market_events.specs.Orders.{checkouts_taken, is_of, is_taken, ships, items_taken}
 use Rattle.market_events.specs.Requests.{same_id}
 use Rattle.market_events.specs.declared.roles.Role.{Role}
@@ -30,13 +30,13 @@ use Rattle.market_laws.proofs.Origins.Cuts.{any_of_member}
 use Rattle.market_laws.proofs.Origins.Back.{BackSome}
 use Rattle.market_laws.proofs.Fits.KindsOnLinks.{never-came}
 use Rattle.market_laws.proofs.Fits.CopyMembers.{gathered-member, all_of_members}
-use Rattle.market_laws.proofs.Fits.ItemsApart.{apart-before, shipped-before, items_once-13}
-use Rattle.market_laws.proofs.Fits.BackToInvoices.{on_eight-9, IsPaidItem, invoice-back, unpaid-back, paid-back, paid-item, held-before, paid-before}
-use Rattle.market_laws.proofs.Fits.SameOnTwoLinks.{paid-twin-9}
+use Rattle.market_laws.proofs.Fits.ItemsApart.{apart-before, shipped-before, items_once-order}
+use Rattle.market_laws.proofs.Fits.BackToInvoices.{to_stock-order, IsPaidItem, invoice-back, unpaid-back, paid-back, paid-item, held-before, paid-before}
+use Rattle.market_laws.proofs.Fits.SameOnTwoLinks.{paid-twin-order}
 use Rattle.market_laws.proofs.Fits.AloneOnLinks.{held-order, settle-order, ship-order, delivery-order, came-alone, none-taken}
 use Rattle.market_laws.proofs.Fits.Shipments.{settles-few}
 use Rattle.market_laws.proofs.Runs.Orders.{has_order-held}
-use Rattle.market_laws.proofs.Runs.Payments.{payments-9}
+use Rattle.market_laws.proofs.Runs.Payments.{payments-to-order}
 use Rattle.market_laws.proofs.Runs.Shipments.{shipped-is, confirms-once, shipped-paid, delivered-shipped}
 use Rattle.market_laws.proofs.Runs.Stock.{answered-is, reserves-once}
 
@@ -72,16 +72,16 @@ module _ (h : Histories) (event : Event) (lawful : IsLawful h) (t : TookAt h ord
       → role_fits Role.Order (steps_at order_node t.before) (body.StockConfirmed checkout customer lines) ≡ true
   order-held checkout customer lines is =
       ap not (has_order-held checkout (taken_bodies (steps_at order_node t.before))
-      ∙ none-taken h order_node event lawful t 4 stock_node refl (omega arith) (holds_pieces checkout) (held-order checkout) (ap (holds_pieces checkout) is ∙ same_id-self checkout) (held-few checkout))
+      ∙ none-taken h order_node event lawful t STOCK_TO_ORDER stock_node refl (omega arith) (holds_pieces checkout) (held-order checkout) (ap (holds_pieces checkout) is ∙ same_id-self checkout) (held-few checkout))
 
   -- what settles a checkout that was not settled
   unsettled : (checkout : RequestId) → settles checkout event.body ≡ true → is_settled (steps_at order_node t.before) checkout ≡ false
   unsettled checkout passes =
-      none-taken h order_node event lawful t 9 payment_node refl (omega arith) (settles checkout) (settle-order checkout) passes
-      (λ steps run. subst (λ bs. count_by (settles checkout) bs ≤ 1) (payments-9 steps run) (settles-few checkout steps run))
+      none-taken h order_node event lawful t PAYMENT_TO_ORDER payment_node refl (omega arith) (settles checkout) (settle-order checkout) passes
+      (λ steps run. subst (λ bs. count_by (settles checkout) bs ≤ 1) (payments-to-order steps run) (settles-few checkout steps run))
 
-  on_nine : (checkout : RequestId) → settles checkout event.body ≡ true → event.link ≡ PAYMENT_TO_ORDER
-  on_nine checkout passes = came-alone h order_node event t (settles checkout) 9 (settle-order checkout) passes
+  by_payment : (checkout : RequestId) → settles checkout event.body ≡ true → event.link ≡ PAYMENT_TO_ORDER
+  by_payment checkout passes = came-alone h order_node event t (settles checkout) PAYMENT_TO_ORDER (settle-order checkout) passes
 
   -- a payment, and that there is none
   pub order-confirmed : (checkout : RequestId) (customer : ℕ) (lines : List PricedLine) (total : ℕ) → event.body ≡ body.Confirmed checkout customer lines total
@@ -89,7 +89,7 @@ module _ (h : Histories) (event : Event) (lawful : IsLawful h) (t : TookAt h ord
   order-confirmed checkout customer lines total is =
       let steps = steps_at order_node t.before in
       let passes : settles checkout event.body ≡ true = ap (settles checkout) is ∙ same_id-self checkout in
-      let back = invoice-back h order_node event lawful t 9 (on_nine checkout passes) refl on_eight-9 checkout customer lines total is in
+      let back = invoice-back h order_node event lawful t PAYMENT_TO_ORDER (by_payment checkout passes) refl to_stock-order checkout customer lines total is in
       let held = held-before h back.origin.event lawful back.origin.took checkout customer lines total back.origin.body_is event t back.before in
       and_from (list_any (is_for_lines checkout customer lines) (checkouts_taken steps)) (not (is_settled steps checkout))
       (has_held (is_for_lines checkout customer lines) steps checkout customer lines held (for_lines checkout customer lines)) (ap not (unsettled checkout passes))
@@ -99,7 +99,7 @@ module _ (h : Histories) (event : Event) (lawful : IsLawful h) (t : TookAt h ord
   order-failed checkout customer rule is =
       let steps = steps_at order_node t.before in
       let passes : settles checkout event.body ≡ true = ap (settles checkout) is ∙ same_id-self checkout in
-      let some = unpaid-back h order_node event lawful t 9 (on_nine checkout passes) refl on_eight-9 checkout customer rule is in
+      let some = unpaid-back h order_node event lawful t PAYMENT_TO_ORDER (by_payment checkout passes) refl to_stock-order checkout customer rule is in
       let back = some.back in
       let lines = some.holds.0 in
       let held = held-before h back.origin.event lawful back.origin.took checkout customer lines some.holds.1 (back.origin.body_is ∙ some.holds.2) event t back.before in
@@ -112,14 +112,14 @@ module _ (h : Histories) (event : Event) (lawful : IsLawful h) (t : TookAt h ord
       let steps = steps_at order_node t.before in
       let passes : ships checkout event.body ≡ true = ap (ships checkout) is ∙ same_id-self checkout in
       and_from (is_taken confirms steps checkout) (not (is_taken ships steps checkout))
-      (paid-before h order_node event lawful t (omega arith) below 13 9 (came-alone h order_node event t (ships checkout) 13 (ship-order checkout) passes) refl (omega arith) refl (λ g made ten. paid-twin-9 h g lawful made ten) checkout
+      (paid-before h order_node event lawful t (omega arith) below SHIPMENT_TO_ORDER (index_of PAYMENT_TO_ORDER) (came-alone h order_node event t (ships checkout) SHIPMENT_TO_ORDER (ship-order checkout) passes) refl (omega arith) refl (λ g made to_shipment. paid-twin-order h g lawful made to_shipment) checkout
       (λ steps run here.
       let found = shipped-paid steps run checkout (subst (λ b. Member b (made_on SHIPMENT_TO_ORDER steps)) is here) in
       (body.Confirmed checkout found.0 found.1 found.2, found.3, (found.0, found.1, found.2, refl))))
-      (ap not (none-taken h order_node event lawful t 13 shipment_node refl (omega arith) (ships checkout) (ship-order checkout) passes (ships-few checkout)))
+      (ap not (none-taken h order_node event lawful t SHIPMENT_TO_ORDER shipment_node refl (omega arith) (ships checkout) (ship-order checkout) passes (ships-few checkout)))
 
-  on_thirteen : (items : List Item) → event.body ≡ body.Delivered items → event.link ≡ SHIPMENT_TO_ORDER
-  on_thirteen items is = came-alone h order_node event t is_delivery 13 delivery-order (ap is_delivery is)
+  by_shipment : (items : List Item) → event.body ≡ body.Delivered items → event.link ≡ SHIPMENT_TO_ORDER
+  by_shipment items is = came-alone h order_node event t is_delivery SHIPMENT_TO_ORDER delivery-order (ap is_delivery is)
 
   -- an item that was paid has a line in what stock holds
   item_line : (item : Item) → BackSome h shipment_node event t.clock (IsPaidItem item)
@@ -139,14 +139,14 @@ module _ (h : Histories) (event : Event) (lawful : IsLawful h) (t : TookAt h ord
   pub order-delivered : FitsBelow h t.clock → (items : List Item) → event.body ≡ body.Delivered items → role_fits Role.Order (steps_at order_node t.before) (body.Delivered items) ≡ true
   order-delivered below items is =
       let steps = steps_at order_node t.before in
-      let on = on_thirteen items is in
+      let on = by_shipment items is in
       and_from (items_apart (items_taken steps) items) (list_all (order_item_fits steps) items)
-      (apart-before h order_node event lawful t 13 on (omega arith) below refl items is items_once-13 delivery-order)
+      (apart-before h order_node event lawful t SHIPMENT_TO_ORDER on (omega arith) below refl items is items_once-order delivery-order)
       (all_of_members (order_item_fits steps) items
       (λ item here.
       and_from (is_taken ships steps item.checkout) (list_any (λ (r : Reservation). is_of item.checkout r && is_line_of r.lines item) (checkouts_taken steps))
-      (shipped-before h order_node event lawful t 13 on (omega arith) below refl items is (λ steps run xs ys made. delivered-shipped steps run xs ys items made) item here)
-      (item_line item (paid-item h order_node event lawful t 13 on refl items is (λ steps run made. made) item here))))
+      (shipped-before h order_node event lawful t SHIPMENT_TO_ORDER on (omega arith) below refl items is (λ steps run xs ys made. delivered-shipped steps run xs ys items made) item here)
+      (item_line item (paid-item h order_node event lawful t SHIPMENT_TO_ORDER on refl items is (λ steps run made. made) item here))))
 
   -- each body but a request
   pub order_fits_all : FitsBelow h t.clock → ((request : Request) → event.body ≡ body.Asked request → ⊥) → role_fits (role_at order_node) (steps_at order_node t.before) event.body ≡ true

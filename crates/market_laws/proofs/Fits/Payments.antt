@@ -29,7 +29,7 @@ module _ (h : Histories) (event : Event) (lawful : IsLawful h) (t : TookAt h pay
   pub payment-invoice : (checkout : RequestId) (customer : ℕ) (lines : List PricedLine) (total : ℕ) → event.body ≡ body.Invoice checkout customer lines total
       → role_fits Role.Payment (steps_at payment_node t.before) (body.Invoice checkout customer lines total) ≡ true
   payment-invoice checkout customer lines total is =
-      ap not (none-taken h payment_node event lawful t 5 order_node refl (omega arith) (invoices checkout) (invoice-payment checkout) (ap (invoices checkout) is ∙ same_id-self checkout) (invoices-few checkout))
+      ap not (none-taken h payment_node event lawful t ORDER_TO_PAYMENT order_node refl (omega arith) (invoices checkout) (invoice-payment checkout) (ap (invoices checkout) is ∙ same_id-self checkout) (invoices-few checkout))
 
   -- each body but a request
   pub payment_fits_all : FitsBelow h t.clock → ((request : Request) → event.body ≡ body.Asked request → ⊥) → role_fits (role_at payment_node) (steps_at payment_node t.before) event.body ≡ true

@@ -10,10 +10,10 @@ use Rattle.market_events.specs.declared.bodies.Item.{Item}
 use Rattle.market_events.specs.declared.bodies.PayRule.{PayRule}
 use Rattle.market_events.specs.declared.bodies.PricedLine.{PricedLine}
 use Rattle.market_events.specs.declared.events.Event.{Event}
-use Rattle.market_events.specs.declared.links.TheConstants.{ORDER_TO_PAYMENT, PAYMENT_TO_SELLER}
+use Rattle.market_events.specs.declared.links.TheConstants.{ORDER_TO_PAYMENT, PAYMENT_TO_SELLER, ORDER_TO_SELLER}
 use Rattle.market_events.specs.declared.links.TheConstants.{SHIPMENT_TO_SELLER}
 use Rattle.market_events.specs.declared.requests.Request.{Request}
-use Rattle.market_events.specs.Links.{order_node, payment_node, shipment_node, seller_node}
+use Rattle.market_events.specs.Links.{order_node, payment_node, shipment_node, seller_node, index_of}
 use Rattle.market_events.specs.Orders.{is_taken, ships, items_taken}
 use Rattle.market_events.specs.Requests.{same_id, same_key}
 use Rattle.market_events.specs.Sellers.{lines_invoiced, invoice_lines}
@@ -34,16 +34,16 @@ use Rattle.market_laws.proofs.Origins.Senders.{took-made-on}
 use Rattle.market_laws.proofs.Pasts.Made.{past-taken}
 use Rattle.market_laws.proofs.Fits.KindsOnLinks.{never-came}
 use Rattle.market_laws.proofs.Fits.CopyMembers.{all_of_members}
-use Rattle.market_laws.proofs.Fits.ItemsApart.{apart-before, shipped-before, items_once-14}
+use Rattle.market_laws.proofs.Fits.ItemsApart.{apart-before, shipped-before, items_once-seller}
 use Rattle.market_laws.proofs.Fits.Orders.{ships-few}
-use Rattle.market_laws.proofs.Fits.BackToInvoices.{on_eight-12, IsPaidItem, invoice-back, unpaid-back, paid-back, paid-item, invoice-on, twin-taken, paid-before}
-use Rattle.market_laws.proofs.Fits.SameOnTwoLinks.{invoice-twin, paid-twin-12}
+use Rattle.market_laws.proofs.Fits.BackToInvoices.{to_stock-seller, IsPaidItem, invoice-back, unpaid-back, paid-back, paid-item, invoice-on, twin-taken, paid-before}
+use Rattle.market_laws.proofs.Fits.SameOnTwoLinks.{invoice-twin, paid-twin-seller}
 use Rattle.market_laws.proofs.Fits.Payments.{invoices-few}
 use Rattle.market_laws.proofs.Fits.AloneOnLinks.{invoice-seller, settle-seller, ship-seller, delivery-seller, came-alone, none-taken}
 use Rattle.market_laws.proofs.Fits.Shipments.{settles-few}
-use Rattle.market_laws.proofs.Runs.Orders.{invoices-6}
-use Rattle.market_laws.proofs.Runs.Payments.{payments-12}
-use Rattle.market_laws.proofs.Runs.Shipments.{shipments-14, shipped-paid, delivered-shipped}
+use Rattle.market_laws.proofs.Runs.Orders.{invoices-to-seller}
+use Rattle.market_laws.proofs.Runs.Payments.{payments-to-seller}
+use Rattle.market_laws.proofs.Runs.Shipments.{shipments-to-seller, shipped-paid, delivered-shipped}
 
 -- what a member's part has
 any_of_part : {A B : Type 0} (test : B → Bool) (f : A → List B) (x : A) (xs : List A) → Member x xs → list_any test (f x) ≡ true → list_any test (flat_map f xs) ≡ true
@@ -71,26 +71,26 @@ module _ (h : Histories) (event : Event) (lawful : IsLawful h) (t : TookAt h sel
   pub seller-invoice : (checkout : RequestId) (customer : ℕ) (lines : List PricedLine) (total : ℕ) → event.body ≡ body.Invoice checkout customer lines total
       → role_fits Role.Seller (steps_at seller_node t.before) (body.Invoice checkout customer lines total) ≡ true
   seller-invoice checkout customer lines total is =
-      ap not (none-taken h seller_node event lawful t 6 order_node refl (omega arith) (invoices checkout) (invoice-seller checkout) (ap (invoices checkout) is ∙ same_id-self checkout)
-      (λ steps run. subst (λ bs. count_by (invoices checkout) bs ≤ 1) (invoices-6 steps run) (invoices-few checkout steps run)))
+      ap not (none-taken h seller_node event lawful t ORDER_TO_SELLER order_node refl (omega arith) (invoices checkout) (invoice-seller checkout) (ap (invoices checkout) is ∙ same_id-self checkout)
+      (λ steps run. subst (λ bs. count_by (invoices checkout) bs ≤ 1) (invoices-to-seller steps run) (invoices-few checkout steps run)))
 
   -- an invoice that payments took, and that the event counts, sellers took before
   invoice_taken : FitsBelow h t.clock → (f : Event) (took : TookAt h payment_node f) (checkout : RequestId) (customer : ℕ) (lines : List PricedLine) (total : ℕ) → f.body ≡ body.Invoice checkout customer lines total
-      → slice_index f.past 6 ≤ slice_index event.past 6 → Member (body.Invoice checkout customer lines total) (taken_bodies (steps_at seller_node t.before))
+      → slice_index f.past (index_of ORDER_TO_SELLER) ≤ slice_index event.past (index_of ORDER_TO_SELLER) → Member (body.Invoice checkout customer lines total) (taken_bodies (steps_at seller_node t.before))
   invoice_taken below f took checkout customer lines total is counts =
       let on = invoice-on h f lawful took checkout customer lines total is in
       let made : MadeAt h order_node f = (took-made-on h lawful payment_node f ORDER_TO_PAYMENT took on).made in
       subst (λ b. Member b (taken_bodies (steps_at seller_node t.before))) is
-      (twin-taken h seller_node event lawful t (omega arith) below order_node 6 (omega arith) refl f (invoice-twin h f lawful made on) counts)
+      (twin-taken h seller_node event lawful t (omega arith) below order_node (index_of ORDER_TO_SELLER) (omega arith) refl f (invoice-twin h f lawful made on) counts)
 
   -- what settles a checkout that was not settled
   unsettled : (checkout : RequestId) → settles checkout event.body ≡ true → is_settled (steps_at seller_node t.before) checkout ≡ false
   unsettled checkout passes =
-      none-taken h seller_node event lawful t 12 payment_node refl (omega arith) (settles checkout) (settle-seller checkout) passes
-      (λ steps run. subst (λ bs. count_by (settles checkout) bs ≤ 1) (payments-12 steps run) (settles-few checkout steps run))
+      none-taken h seller_node event lawful t PAYMENT_TO_SELLER payment_node refl (omega arith) (settles checkout) (settle-seller checkout) passes
+      (λ steps run. subst (λ bs. count_by (settles checkout) bs ≤ 1) (payments-to-seller steps run) (settles-few checkout steps run))
 
-  on_twelve : (checkout : RequestId) → settles checkout event.body ≡ true → event.link ≡ PAYMENT_TO_SELLER
-  on_twelve checkout passes = came-alone h seller_node event t (settles checkout) 12 (settle-seller checkout) passes
+  by_payment : (checkout : RequestId) → settles checkout event.body ≡ true → event.link ≡ PAYMENT_TO_SELLER
+  by_payment checkout passes = came-alone h seller_node event t (settles checkout) PAYMENT_TO_SELLER (settle-seller checkout) passes
 
   -- a payment, and that there is none
   pub seller-confirmed : FitsBelow h t.clock → (checkout : RequestId) (customer : ℕ) (lines : List PricedLine) (total : ℕ) → event.body ≡ body.Confirmed checkout customer lines total
@@ -98,9 +98,9 @@ module _ (h : Histories) (event : Event) (lawful : IsLawful h) (t : TookAt h sel
   seller-confirmed below checkout customer lines total is =
       let steps = steps_at seller_node t.before in
       let passes : settles checkout event.body ≡ true = ap (settles checkout) is ∙ same_id-self checkout in
-      let back = invoice-back h seller_node event lawful t 12 (on_twelve checkout passes) refl on_eight-12 checkout customer lines total is in
+      let back = invoice-back h seller_node event lawful t PAYMENT_TO_SELLER (by_payment checkout passes) refl to_stock-seller checkout customer lines total is in
       let origin = back.origin in
-      let counts = past-taken h payment_node event lawful back.made origin.event 6 (omega arith) origin.took origin.clock in
+      let counts = past-taken h payment_node event lawful back.made origin.event (index_of ORDER_TO_SELLER) (omega arith) origin.took origin.clock in
       let here = invoice_taken below origin.event origin.took checkout customer lines total origin.body_is counts in
       and_from (list_any (invoices_lines checkout customer lines) (taken_bodies steps)) (not (is_settled steps checkout))
       (any_of_member (invoices_lines checkout customer lines) (body.Invoice checkout customer lines total) (taken_bodies steps) here (invoice_lines_for checkout customer lines total))
@@ -111,11 +111,11 @@ module _ (h : Histories) (event : Event) (lawful : IsLawful h) (t : TookAt h sel
   seller-failed below checkout customer rule is =
       let steps = steps_at seller_node t.before in
       let passes : settles checkout event.body ≡ true = ap (settles checkout) is ∙ same_id-self checkout in
-      let some = unpaid-back h seller_node event lawful t 12 (on_twelve checkout passes) refl on_eight-12 checkout customer rule is in
+      let some = unpaid-back h seller_node event lawful t PAYMENT_TO_SELLER (by_payment checkout passes) refl to_stock-seller checkout customer rule is in
       let origin = some.back.origin in
       let lines = some.holds.0 in
       let total = some.holds.1 in
-      let counts = past-taken h payment_node event lawful some.back.made origin.event 6 (omega arith) origin.took origin.clock in
+      let counts = past-taken h payment_node event lawful some.back.made origin.event (index_of ORDER_TO_SELLER) (omega arith) origin.took origin.clock in
       let here = invoice_taken below origin.event origin.took checkout customer lines total (origin.body_is ∙ some.holds.2) counts in
       and_from (list_any (invoices_for checkout customer) (taken_bodies steps)) (not (is_settled steps checkout))
       (any_of_member (invoices_for checkout customer) (body.Invoice checkout customer lines total) (taken_bodies steps) here (invoice_for checkout customer lines total))
@@ -127,15 +127,15 @@ module _ (h : Histories) (event : Event) (lawful : IsLawful h) (t : TookAt h sel
       let steps = steps_at seller_node t.before in
       let passes : ships checkout event.body ≡ true = ap (ships checkout) is ∙ same_id-self checkout in
       and_from (is_taken confirms steps checkout) (not (is_taken ships steps checkout))
-      (paid-before h seller_node event lawful t (omega arith) below 14 12 (came-alone h seller_node event t (ships checkout) 14 (ship-seller checkout) passes) refl (omega arith) refl (λ g made ten. paid-twin-12 h g lawful made ten) checkout
+      (paid-before h seller_node event lawful t (omega arith) below SHIPMENT_TO_SELLER (index_of PAYMENT_TO_SELLER) (came-alone h seller_node event t (ships checkout) SHIPMENT_TO_SELLER (ship-seller checkout) passes) refl (omega arith) refl (λ g made to_shipment. paid-twin-seller h g lawful made to_shipment) checkout
       (λ steps run here.
-      let found = shipped-paid steps run checkout (subst (λ bs. Member (body.Shipped checkout) bs) (sym (shipments-14 steps run)) (subst (λ b. Member b (made_on SHIPMENT_TO_SELLER steps)) is here)) in
+      let found = shipped-paid steps run checkout (subst (λ bs. Member (body.Shipped checkout) bs) (sym (shipments-to-seller steps run)) (subst (λ b. Member b (made_on SHIPMENT_TO_SELLER steps)) is here)) in
       (body.Confirmed checkout found.0 found.1 found.2, found.3, (found.0, found.1, found.2, refl))))
-      (ap not (none-taken h seller_node event lawful t 14 shipment_node refl (omega arith) (ships checkout) (ship-seller checkout) passes
-      (λ steps run. subst (λ bs. count_by (ships checkout) bs ≤ 1) (shipments-14 steps run) (ships-few checkout steps run))))
+      (ap not (none-taken h seller_node event lawful t SHIPMENT_TO_SELLER shipment_node refl (omega arith) (ships checkout) (ship-seller checkout) passes
+      (λ steps run. subst (λ bs. count_by (ships checkout) bs ≤ 1) (shipments-to-seller steps run) (ships-few checkout steps run))))
 
-  on_fourteen : (items : List Item) → event.body ≡ body.Delivered items → event.link ≡ SHIPMENT_TO_SELLER
-  on_fourteen items is = came-alone h seller_node event t is_delivery 14 delivery-seller (ap is_delivery is)
+  by_shipment : (items : List Item) → event.body ≡ body.Delivered items → event.link ≡ SHIPMENT_TO_SELLER
+  by_shipment items is = came-alone h seller_node event t is_delivery SHIPMENT_TO_SELLER delivery-seller (ap is_delivery is)
 
   -- an item that was paid has a line in its invoice
   item_line : FitsBelow h t.clock → (item : Item) → BackSome h shipment_node event t.clock (IsPaidItem item) → is_line_of (invoice_lines (taken_bodies (steps_at seller_node t.before)) item.checkout) item ≡ true
@@ -146,8 +146,8 @@ module _ (h : Histories) (event : Event) (lawful : IsLawful h) (t : TookAt h sel
       let total = paid.holds.1 in
       let back = paid-back h g lawful origin.took item.checkout item.customer lines total (origin.body_is ∙ paid.holds.2) in
       let f = back.origin.event in
-      let first = past-taken h payment_node g lawful back.made f 6 (omega arith) back.origin.took back.origin.clock in
-      let later = past-taken h shipment_node event lawful paid.back.made g 6 (omega arith) origin.took origin.clock in
+      let first = past-taken h payment_node g lawful back.made f (index_of ORDER_TO_SELLER) (omega arith) back.origin.took back.origin.clock in
+      let later = past-taken h shipment_node event lawful paid.back.made g (index_of ORDER_TO_SELLER) (omega arith) origin.took origin.clock in
       line_invoiced (steps_at seller_node t.before) item lines total
       (invoice_taken below f back.origin.took item.checkout item.customer lines total back.origin.body_is (omega (arith, first, later))) paid.holds.3
 
@@ -155,16 +155,16 @@ module _ (h : Histories) (event : Event) (lawful : IsLawful h) (t : TookAt h sel
   pub seller-delivered : FitsBelow h t.clock → (items : List Item) → event.body ≡ body.Delivered items → role_fits Role.Seller (steps_at seller_node t.before) (body.Delivered items) ≡ true
   seller-delivered below items is =
       let steps = steps_at seller_node t.before in
-      let on = on_fourteen items is in
+      let on = by_shipment items is in
       and_from (items_apart (items_taken steps) items) (list_all (seller_item_fits steps) items)
-      (apart-before h seller_node event lawful t 14 on (omega arith) below refl items is items_once-14 delivery-seller)
+      (apart-before h seller_node event lawful t SHIPMENT_TO_SELLER on (omega arith) below refl items is items_once-seller delivery-seller)
       (all_of_members (seller_item_fits steps) items
       (λ item here.
       and_from (is_taken ships steps item.checkout) (is_line_of (invoice_lines (taken_bodies steps) item.checkout) item)
-      (shipped-before h seller_node event lawful t 14 on (omega arith) below refl items is
-      (λ steps run xs ys made. delivered-shipped steps run xs ys items (shipments-14 steps run ∙ made)) item here)
+      (shipped-before h seller_node event lawful t SHIPMENT_TO_SELLER on (omega arith) below refl items is
+      (λ steps run xs ys made. delivered-shipped steps run xs ys items (shipments-to-seller steps run ∙ made)) item here)
       (item_line below item
-      (paid-item h seller_node event lawful t 14 on refl items is (λ steps run made. subst (λ bs. Member (body.Delivered items) bs) (sym (shipments-14 steps run)) made) item here))))
+      (paid-item h seller_node event lawful t SHIPMENT_TO_SELLER on refl items is (λ steps run made. subst (λ bs. Member (body.Delivered items) bs) (sym (shipments-to-seller steps run)) made) item here))))
 
   -- each body but a request
   pub seller_fits_all : FitsBelow h t.clock → ((request : Request) → event.body ≡ body.Asked request → ⊥) → role_fits (role_at seller_node) (steps_at seller_node t.before) event.body ≡ true

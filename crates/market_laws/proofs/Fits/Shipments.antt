@@ -21,7 +21,7 @@ use Rattle.market_laws.specs.Cuts.{steps_at, TookAt, FitsBelow}
 use Rattle.market_laws.specs.Runs.{is_payment}
 use Rattle.market_laws.proofs.Fits.KindsOnLinks.{never-came}
 use Rattle.market_laws.proofs.Fits.AloneOnLinks.{confirm-shipment, none-taken}
-use Rattle.market_laws.proofs.Runs.Payments.{payments-10, settles-is-invoices, invoices-once}
+use Rattle.market_laws.proofs.Runs.Payments.{payments-to-shipment, settles-is-invoices, invoices-once}
 
 -- payments settle a checkout once at most
 pub settles-few : (id : RequestId) (steps : List Step) → IsRunOf Role.Payment steps → count_by (settles id) (made_on PAYMENT_TO_STOCK steps) ≤ 1
@@ -40,14 +40,14 @@ confirms_le id (b ∷ bs) = by b (confirms_le id bs)
 -- payments confirm a checkout once at most
 pub confirms-few : (id : RequestId) (steps : List Step) → IsRunOf Role.Payment steps → count_by (confirms id) (made_on PAYMENT_TO_SHIPMENT steps) ≤ 1
 confirms-few id steps run =
-    subst (λ bs. count_by (confirms id) bs ≤ 1) (sym (payments-10 steps run)) (omega (arith, confirms_le id (made_on PAYMENT_TO_STOCK steps), settles-few id steps run))
+    subst (λ bs. count_by (confirms id) bs ≤ 1) (sym (payments-to-shipment steps run)) (omega (arith, confirms_le id (made_on PAYMENT_TO_STOCK steps), settles-few id steps run))
 
 module _ (h : Histories) (event : Event) (lawful : IsLawful h) (t : TookAt h shipment_node event) where
   -- a payment
   pub shipment-confirmed : (checkout : RequestId) (customer : ℕ) (lines : List PricedLine) (total : ℕ) → event.body ≡ body.Confirmed checkout customer lines total
       → role_fits Role.Shipment (steps_at shipment_node t.before) (body.Confirmed checkout customer lines total) ≡ true
   shipment-confirmed checkout customer lines total is =
-      ap not (none-taken h shipment_node event lawful t 10 payment_node refl (omega arith) (confirms checkout) (confirm-shipment checkout) (ap (confirms checkout) is ∙ same_id-self checkout) (confirms-few checkout))
+      ap not (none-taken h shipment_node event lawful t PAYMENT_TO_SHIPMENT payment_node refl (omega arith) (confirms checkout) (confirm-shipment checkout) (ap (confirms checkout) is ∙ same_id-self checkout) (confirms-few checkout))
 
   -- each body but a request
   pub shipment_fits_all : FitsBelow h t.clock → ((request : Request) → event.body ≡ body.Asked request → ⊥) → role_fits (role_at shipment_node) (steps_at shipment_node t.before) event.body ≡ true

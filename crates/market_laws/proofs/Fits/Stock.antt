@@ -10,7 +10,7 @@ use Rattle.market_events.specs.declared.bodies.PricedLine.{PricedLine}
 use Rattle.market_events.specs.declared.events.Event.{Event}
 use Rattle.market_events.specs.Carts.{changes_taken, cart_rows, cart_sums}
 use Rattle.market_events.specs.Copies.{copy_of}
-use Rattle.market_events.specs.Links.{cart_node, product_node, stock_node, payment_node}
+use Rattle.market_events.specs.Links.{cart_node, product_node, stock_node, payment_node, index_of}
 use Rattle.market_events.specs.Looks.{is_live}
 use Rattle.market_events.specs.Orders.{is_taken}
 use Rattle.market_events.specs.Products.{product_rows, product_sums}
@@ -48,13 +48,13 @@ use Rattle.market_laws.proofs.Runs.ToldOnce.{asked-once}
 
 -- a checkout comes to stock from the cart alone
 reserves_alone : (id : RequestId) → ComesAlone stock_node (reserves id) CART_TO_STOCK
-reserves_alone id link (body.Reserve checkout customer lines) on into carried own passes = came-on stock_node 2 (body.Reserve checkout customer lines) (omega arith) tt refl link on into carried
+reserves_alone id link (body.Reserve checkout customer lines) on into carried own passes = came-on stock_node CART_TO_STOCK (body.Reserve checkout customer lines) (omega arith) tt refl link on into carried
 reserves_alone id link other on into carried own passes = cc
 
 -- and what settles one from payments alone
 settles_alone : (id : RequestId) → ComesAlone stock_node (settles id) PAYMENT_TO_STOCK
-settles_alone id link (body.Confirmed checkout customer lines total) on into carried own passes = came-on stock_node 8 (body.Confirmed checkout customer lines total) (omega arith) tt refl link on into carried
-settles_alone id link (body.Failed checkout customer rule) on into carried own passes = came-on stock_node 8 (body.Failed checkout customer rule) (omega arith) tt refl link on into carried
+settles_alone id link (body.Confirmed checkout customer lines total) on into carried own passes = came-on stock_node PAYMENT_TO_STOCK (body.Confirmed checkout customer lines total) (omega arith) tt refl link on into carried
+settles_alone id link (body.Failed checkout customer rule) on into carried own passes = came-on stock_node PAYMENT_TO_STOCK (body.Failed checkout customer rule) (omega arith) tt refl link on into carried
 settles_alone id link other on into carried own passes = cc
 
 -- an invoice of this checkout for this customer
@@ -67,12 +67,12 @@ reserved_for checkout customer lines = record { checkout = checkout; customer = 
 
 module _ (h : Histories) (lawful : IsLawful h) (event : Event) (t : TookAt h stock_node event) where
   -- what stock holds is among its reservations
-  is_reserved : (checkout : RequestId) (customer : ℕ) (lines : List PricedLine) → MadeBefore h stock_node 4 (body.StockConfirmed checkout customer lines) t.clock
+  is_reserved : (checkout : RequestId) (customer : ℕ) (lines : List PricedLine) → MadeBefore h stock_node STOCK_TO_ORDER (body.StockConfirmed checkout customer lines) t.clock
       → Member (reserved_for checkout customer lines) (reservations (steps_at stock_node t.before))
   is_reserved checkout customer lines m =
       let steps = steps_at stock_node t.before in
       let here : Member (body.StockConfirmed checkout customer lines) (made_on STOCK_TO_ORDER steps) =
-      subst (λ b. Member b (made_on STOCK_TO_ORDER steps)) m.body_is (made-before h lawful stock_node (omega arith) event t m.event 4 m.made m.clock m.on) in
+      subst (λ b. Member b (made_on STOCK_TO_ORDER steps)) m.body_is (made-before h lawful stock_node (omega arith) event t m.event STOCK_TO_ORDER m.made m.clock m.on) in
       gathered-member reservation_in (body.StockConfirmed checkout customer lines) (reserved_for checkout customer lines) (made_on STOCK_TO_ORDER steps) here refl
 
   -- what settles a checkout comes once
@@ -80,16 +80,16 @@ module _ (h : Histories) (lawful : IsLawful h) (event : Event) (t : TookAt h sto
   settled_new checkout on passes =
       let steps = steps_at payment_node (journal_at h payment_node) in
       let run : IsRunOf Role.Payment steps = steps-run payment_node (journal_at h payment_node) in
-      once-service h stock_node event lawful t 8 payment_node on refl (omega arith) (settles checkout) (omega (arith, settles-is-invoices steps run checkout, invoices-once steps run checkout)) passes (settles_alone checkout)
+      once-service h stock_node event lawful t PAYMENT_TO_STOCK payment_node on refl (omega arith) (settles checkout) (omega (arith, settles-is-invoices steps run checkout, invoices-once steps run checkout)) passes (settles_alone checkout)
 
   module _ (checkout : RequestId) (customer : ℕ) (lines : List PricedLine) (total : ℕ) (is : event.body ≡ body.Confirmed checkout customer lines total) where
     paid_on : event.link ≡ PAYMENT_TO_STOCK
-    paid_on = came h stock_node event t (body.Confirmed checkout customer lines total) is (omega arith) tt 8 refl
+    paid_on = came h stock_node event t (body.Confirmed checkout customer lines total) is (omega arith) tt PAYMENT_TO_STOCK refl
 
     paid_seen : list_any (is_for_lines checkout customer lines) (reservations (steps_at stock_node t.before)) ≡ true
     paid_seen =
-        let m = taken-sent h lawful stock_node 8 payment_node event t paid_on refl (body.Confirmed checkout customer lines total) is t.clock (omega arith) in
-        let u = sent-origin h lawful payment_node 8 (body.Confirmed checkout customer lines total) (body.Invoice checkout customer lines total) t.clock (omega arith) m
+        let m = taken-sent h lawful stock_node PAYMENT_TO_STOCK payment_node event t paid_on refl (body.Confirmed checkout customer lines total) is t.clock (omega arith) in
+        let u = sent-origin h lawful payment_node PAYMENT_TO_STOCK (body.Confirmed checkout customer lines total) (body.Invoice checkout customer lines total) t.clock (omega arith) m
         (λ steps run here. confirmed-invoice steps run checkout customer lines total here) in
         let held = is_reserved checkout customer lines (held-of-invoice h lawful checkout customer lines total t.clock u) in
         any_of_member (is_for_lines checkout customer lines) (reserved_for checkout customer lines) (reservations (steps_at stock_node t.before)) held
@@ -103,12 +103,12 @@ module _ (h : Histories) (lawful : IsLawful h) (event : Event) (t : TookAt h sto
 
   module _ (checkout : RequestId) (customer : ℕ) (rule : PayRule) (is : event.body ≡ body.Failed checkout customer rule) where
     failed_on : event.link ≡ PAYMENT_TO_STOCK
-    failed_on = came h stock_node event t (body.Failed checkout customer rule) is (omega arith) tt 8 refl
+    failed_on = came h stock_node event t (body.Failed checkout customer rule) is (omega arith) tt PAYMENT_TO_STOCK refl
 
     failed_seen : list_any (is_for checkout customer) (reservations (steps_at stock_node t.before)) ≡ true
     failed_seen =
-        let m = taken-sent h lawful stock_node 8 payment_node event t failed_on refl (body.Failed checkout customer rule) is t.clock (omega arith) in
-        let found = sent-origin-some h lawful payment_node 8 (body.Failed checkout customer rule) t.clock (omega arith) m (IsInvoiceFor checkout customer)
+        let m = taken-sent h lawful stock_node PAYMENT_TO_STOCK payment_node event t failed_on refl (body.Failed checkout customer rule) is t.clock (omega arith) in
+        let found = sent-origin-some h lawful payment_node PAYMENT_TO_STOCK (body.Failed checkout customer rule) t.clock (omega arith) m (IsInvoiceFor checkout customer)
         (λ steps run here. let f = failed-invoice steps run checkout customer rule here in (body.Invoice checkout customer f.0 f.1, f.2, (f.0, f.1, refl))) in
         let for = found.2 in
         let held = is_reserved checkout customer for.0 (held-of-invoice h lawful checkout customer for.0 for.1 t.clock (subst (λ c. TookBefore h payment_node t.clock c) for.2 found.1)) in
@@ -122,13 +122,13 @@ module _ (h : Histories) (lawful : IsLawful h) (event : Event) (t : TookAt h sto
 
   module _ (checkout : RequestId) (customer : ℕ) (lines : List PricedLine) (is : event.body ≡ body.Reserve checkout customer lines) where
     sent_on : event.link ≡ CART_TO_STOCK
-    sent_on = came h stock_node event t (body.Reserve checkout customer lines) is (omega arith) tt 2 refl
+    sent_on = came h stock_node event t (body.Reserve checkout customer lines) is (omega arith) tt CART_TO_STOCK refl
 
     sent_new : is_taken reserves (steps_at stock_node t.before) checkout ≡ false
     sent_new =
         let steps = steps_at cart_node (journal_at h cart_node) in
         let run : IsRunOf Role.Cart steps = steps-run cart_node (journal_at h cart_node) in
-        once-service h stock_node event lawful t 2 cart_node sent_on refl (omega arith) (reserves checkout) (omega (arith, sent-le-asked steps run checkout, asked-once Role.Cart steps run checkout))
+        once-service h stock_node event lawful t CART_TO_STOCK cart_node sent_on refl (omega arith) (reserves checkout) (omega (arith, sent-le-asked steps run checkout, asked-once Role.Cart steps run checkout))
         (ap (reserves checkout) is ∙ same_id-self checkout) (reserves_alone checkout)
 
     -- where the cart sent it on
@@ -163,9 +163,9 @@ module _ (h : Histories) (lawful : IsLawful h) (event : Event) (t : TookAt h sto
           let first = sibling h product_node x x_made c lawful [] PRODUCT_TO_STOCK x.body [] (change-pair (product_sums steps) c.event.body x.body c.front c.back rows) in
           let y = first.event in
           let taken_first : z.took.clock < event.clock = let one = z.clock_is in let two = sent_cause.clock in omega arith in
-          let counts : y.number ≤ slice_index x.past 1 = past-made h product_node x lawful x_made y 1 (omega arith) first.at first.link_is first.clock in
-          let carries_on : slice_index x.past 1 ≤ slice_index event.past 1 = past-taken h cart_node event lawful sent_made x 1 (omega arith) z.took taken_first in
-          let early : TookEarlier h stock_node y t.clock = past-ready h stock_node event lawful t 1 1 (omega arith) refl y first.at first.link_is (omega arith) in
+          let counts : y.number ≤ slice_index x.past (index_of PRODUCT_TO_STOCK) = past-made h product_node x lawful x_made y (index_of PRODUCT_TO_STOCK) (omega arith) first.at first.link_is first.clock in
+          let carries_on : slice_index x.past (index_of PRODUCT_TO_STOCK) ≤ slice_index event.past (index_of PRODUCT_TO_STOCK) = past-taken h cart_node event lawful sent_made x (index_of PRODUCT_TO_STOCK) (omega arith) z.took taken_first in
+          let early : TookEarlier h stock_node y t.clock = past-ready h stock_node event lawful t (index_of PRODUCT_TO_STOCK) product_node (omega arith) refl y first.at first.link_is (omega arith) in
           subst (λ c. Member c (taken_bodies (steps_at stock_node t.before))) (first.body_is ∙ z.body_is) (took-below h lawful stock_node (omega arith) event t below y early.took early.clock)
 
       known_line : (line : PricedLine) → Member line lines → is_known (copy_of (changes_taken (steps_at stock_node t.before)) line.key) ≡ true
@@ -177,7 +177,7 @@ module _ (h : Histories) (lawful : IsLawful h) (event : Event) (t : TookAt h sto
           let b = body.Changed line.key last.0 last.1 in
           let z = taken-before h cart_node c.event lawful c.took b last.2 in
           known-changed (taken_bodies (steps_at stock_node t.before)) line.key last.0 last.1
-          (told_before b z (λ e u same. came h cart_node e u b same (omega arith) tt 0 refl))
+          (told_before b z (λ e u same. came h cart_node e u b same (omega arith) tt PRODUCT_TO_CART refl))
 
       stock_sent : role_fits Role.Stock (steps_at stock_node t.before) (body.Reserve checkout customer lines) ≡ true
       stock_sent =

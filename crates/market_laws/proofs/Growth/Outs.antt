@@ -18,10 +18,12 @@ use Rattle.market_events.specs.Carried.{carries}
 use Rattle.market_events.specs.Links.{IsLink, sender_of, service_by_ask, cart_node, product_node, stock_node, order_node, payment_node, shipment_node, customer_node, seller_node}
 use Rattle.market_events.specs.Requests.{lane_of}
 use Rattle.market_events.specs.declared.roles.Role.{Role}
+use Rattle.market_events.specs.declared.roles.TheConstants.{SERVICES}
 use Rattle.market_events.specs.Services.{node_of, answers, fits, reactions, IsRunOf, most_steps}
 use Rattle.market_events.specs.Standing.{step_of, with_step}
 use Rattle.market_events.specs.Steps.{Step, Sending}
 use Rattle.market_events.specs.WellFormed.{IsBody}
+use Rattle.market_events.specs.declared.lanes.TheConstants.{LANES}
 use Rattle.market_events.proofs.Shapes.CartRuns.{cart_shape}
 use Rattle.market_events.proofs.Shapes.AllRuns.{product_shape, payment_shape, customer_shape, order_shape, stock_shape, shipment_shape, seller_shape}
 use Rattle.market_events.proofs.Values.Formed.{body_formed-IsBody}
@@ -131,7 +133,7 @@ service_by_ask-small ask.Deliver = omega arith
 service_by_ask-small (ask.Customer customer) = omega arith
 service_by_ask-small (ask.Dashboard seller) = omega arith
 
-pub lane_of-small : (id : RequestId) → lane_of id < 16
+pub lane_of-small : (id : RequestId) → lane_of id < LANES
 lane_of-small id = mod-lt id.caller (omega arith)
 
 told_made : (n : ℕ) → IsLane n → (b : Body) → AllByRecursion (IsOut n) (told_outs b)
@@ -166,4 +168,4 @@ outs-made n lt before arrival ready = by (nat_lt n services) refl
 
     by : (test : Bool) → nat_lt n services ≡ test → AllByRecursion (IsOut n) (if test then service_outs (role_at n) (steps_of (role_at n) (inputs_of before)) (input_of arrival) else lane_outs (input_of arrival))
     by true is = service arrival (ltb-true n services is)
-    by false is = let low : 8 ≤ n = grind (arith, nat_tests) in lane_made n (low, omega arith) before arrival ready
+    by false is = let low : SERVICES ≤ n = grind (arith, nat_tests) in lane_made n (low, omega arith) before arrival ready

@@ -37,11 +37,11 @@ use Rattle.market_laws.proofs.Runs.Payments.{settles-is-invoices}
 use Rattle.market_laws.proofs.Views.Counts.{count-taken, any-taken, made-parts}
 
 -- what settles a checkout comes into stock from payments alone
-settle_stock : (id : RequestId) → Alone stock_node (settles id) 8
+settle_stock : (id : RequestId) → Alone stock_node (settles id) PAYMENT_TO_STOCK
 settle_stock id link (body.Confirmed checkout customer lines total) is into carried passes =
-    came-on stock_node 8 (body.Confirmed checkout customer lines total) (omega arith) tt refl link is into carried
+    came-on stock_node PAYMENT_TO_STOCK (body.Confirmed checkout customer lines total) (omega arith) tt refl link is into carried
 settle_stock id link (body.Failed checkout customer rule) is into carried passes =
-    came-on stock_node 8 (body.Failed checkout customer rule) (omega arith) tt refl link is into carried
+    came-on stock_node PAYMENT_TO_STOCK (body.Failed checkout customer rule) (omega arith) tt refl link is into carried
 settle_stock id link other is into carried passes = cc
 
 module _ (h : Histories) (lawful : IsLawful h) where
@@ -51,7 +51,7 @@ module _ (h : Histories) (lawful : IsLawful h) where
 
   -- stock took what settles a checkout where it is among these
   is_settled_as : (id : RequestId) → is_settled (service_steps h Role.Stock) id ≡ list_any (settles id) settled
-  is_settled_as id = any-taken h lawful stock_node (omega arith) 8 (settles id) (settle_stock id)
+  is_settled_as id = any-taken h lawful stock_node (omega arith) PAYMENT_TO_STOCK (settles id) (settle_stock id)
 
   -- the reservations that stock sent to orders are those that it made
   abbrev all_reservations : List Reservation
@@ -82,13 +82,13 @@ module _ (h : Histories) (lawful : IsLawful h) where
     invoiced =
         ap (count_by (invoices c)) (whole h lawful order_node (omega arith) ORDER_TO_PAYMENT)
         ∙ invoices-is-held (steps_at order_node (journal_at h order_node)) (steps-run order_node (journal_at h order_node)) c
-        ∙ count-taken h lawful order_node (omega arith) 4 (holds_pieces c) (held-order c)
+        ∙ count-taken h lawful order_node (omega arith) STOCK_TO_ORDER (holds_pieces c) (held-order c)
 
     paid : count_by (settles c) (bodies_of (sent PAYMENT_TO_STOCK (journal_at h payment_node))) ≡ count_by (invoices c) (bodies_of (got ORDER_TO_PAYMENT (journal_at h payment_node)))
     paid =
         ap (count_by (settles c)) (whole h lawful payment_node (omega arith) PAYMENT_TO_STOCK)
         ∙ settles-is-invoices (steps_at payment_node (journal_at h payment_node)) (steps-run payment_node (journal_at h payment_node)) c
-        ∙ count-taken h lawful payment_node (omega arith) 5 (invoices c) (invoice-payment c)
+        ∙ count-taken h lawful payment_node (omega arith) ORDER_TO_PAYMENT (invoices c) (invoice-payment c)
 
     -- what stock sent is on its way or was settled
     balance : on_its_way h c + count_by (settles c) settled ≡ count_by (is_of c) all_reservations

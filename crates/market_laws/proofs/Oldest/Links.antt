@@ -5,7 +5,10 @@ use Rattle.std.specs.List.{AllByRecursion, flat_map, range_with_len}
 use Rattle.std.proofs.lemmas.Bool.Decides.{nat_tests}
 use Rattle.market_events.specs.declared.links.Link.{Link}
 use Rattle.market_events.specs.declared.links.Link.TheVariants.{Service, Asked, Told}
+use Rattle.market_events.specs.declared.links.TheConstants.{SERVICE_LINKS}
 use Rattle.market_events.specs.Links.{IsLink}
+use Rattle.market_events.specs.declared.lanes.TheConstants.{LANES}
+use Rattle.market_events.specs.declared.roles.TheConstants.{SERVICES}
 use Rattle.market_laws.proofs.Growth.Members.{all-append, all-front, all-back}
 
 module _ {A : Type 0} (P : A → Type 0) where
@@ -91,12 +94,12 @@ module _ (P : Link → Type 0) (k l v : ℕ) where
   links_at each (Told s lane) lt = lane_told lane (flat_at P (lane_with v) 0 l (lanes_of each) lane (omega arith) (omega (arith, lt.1))) s lt.0
 
 -- the bounds of links
-pub within_bounds : (link : Link) → IsLink link → IsWithin 16 16 8 link
+pub within_bounds : (link : Link) → IsLink link → IsWithin SERVICE_LINKS LANES SERVICES link
 within_bounds (Service n) on = on
 within_bounds (Asked lane s) on = on
 within_bounds (Told s lane) on = on
 
-pub of_bounds : (link : Link) → IsWithin 16 16 8 link → IsLink link
+pub of_bounds : (link : Link) → IsWithin SERVICE_LINKS LANES SERVICES link → IsLink link
 of_bounds (Service n) on = on
 of_bounds (Asked lane s) on = on
 of_bounds (Told s lane) on = on

@@ -5,7 +5,10 @@ use Rattle.std.specs.List.{AllByRecursion}
 use Rattle.std.proofs.lemmas.Bool.Decides.{nat_tests}
 use Rattle.market_events.specs.declared.events.Event.{Event}
 use Rattle.market_events.specs.declared.links.Link.{Link}
+use Rattle.market_events.specs.declared.links.TheConstants.{SERVICE_LINKS}
 use Rattle.market_events.specs.Links.{IsLink, sender_of}
+use Rattle.market_events.specs.declared.lanes.TheConstants.{LANES}
+use Rattle.market_events.specs.declared.roles.TheConstants.{SERVICES}
 use Rattle.market_history.specs.Histories.{Histories}
 use Rattle.market_history.specs.Lawful.{IsLawful}
 use Rattle.market_history.specs.Outstanding.{outstanding, IsSettled, is_no_later, IsOldest}
@@ -129,10 +132,10 @@ module _ (h : Histories) (lawful : IsLawful h) where
 
   -- settled, or with an oldest event
   pub settled-or-oldest : IsSettled h ⊎ ((link : Link) × (number : ℕ) × IsLink link × IsOldest h link number)
-  settled-or-oldest = by (walk (links_by 16 16 8) (links_all IsLink 16 16 8 of_bounds))
+  settled-or-oldest = by (walk (links_by SERVICE_LINKS LANES SERVICES) (links_all IsLink SERVICE_LINKS LANES SERVICES of_bounds))
     where
-      by : AllByRecursion (λ (l : Link). outstanding h l ≡ []) (links_by 16 16 8) ⊎ BestOf h (links_by 16 16 8) → IsSettled h ⊎ ((link : Link) × (number : ℕ) × IsLink link × IsOldest h link number)
-      by (inl none) = inl (λ link on. links_at (λ (l : Link). outstanding h l ≡ []) 16 16 8 none link (within_bounds link on))
+      by : AllByRecursion (λ (l : Link). outstanding h l ≡ []) (links_by SERVICE_LINKS LANES SERVICES) ⊎ BestOf h (links_by SERVICE_LINKS LANES SERVICES) → IsSettled h ⊎ ((link : Link) × (number : ℕ) × IsLink link × IsOldest h link number)
+      by (inl none) = inl (λ link on. links_at (λ (l : Link). outstanding h l ≡ []) SERVICE_LINKS LANES SERVICES none link (within_bounds link on))
       by (inr best) =
           inr (
             best.link,
@@ -143,6 +146,6 @@ module _ (h : Histories) (lawful : IsLawful h) where
               named = refl;
               rest = best.rest;
               first = best.first;
-              least = λ other on. links_at (λ (other : Link). AllLater best.event (outstanding h other)) 16 16 8 best.least other (within_bounds other on);
+              least = λ other on. links_at (λ (other : Link). AllLater best.event (outstanding h other)) SERVICE_LINKS LANES SERVICES best.least other (within_bounds other on);
             },
           )

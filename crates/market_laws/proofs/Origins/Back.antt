@@ -3,7 +3,7 @@
 use Rattle.std.proofs.Common.{◌≡◌, ℕ, ◌<◌, List, subst, arith}
 use Rattle.market_events.specs.declared.bodies.Body.{Body}
 use Rattle.market_events.specs.declared.events.Event.{Event}
-use Rattle.market_events.specs.declared.links.Link.TheVariants.{Service}
+use Rattle.market_events.specs.declared.links.Link.{Link}
 use Rattle.market_events.specs.Links.{sender_of}
 use Rattle.market_events.specs.Services.{IsRunOf}
 use Rattle.market_events.specs.Steps.{Step, taken_bodies, made_on}
@@ -30,37 +30,37 @@ pub record BackSome (h : Histories) (n : ℕ) (event : Event) (top : ℕ) (Holds
 
 module _ (h : Histories) (lawful : IsLawful h) where
   -- from a made event
-  pub made-origin-some : (n : ℕ) (event : Event) (k : ℕ) → n < services → MadeAt h n event → event.link ≡ Service k → (Holds : Body → Type 0)
-      → ((steps : List Step) → IsRunOf (role_at n) steps → Member event.body (made_on (Service k) steps) → (b : Body) × Member b (taken_bodies steps) × Holds b)
+  pub made-origin-some : (n : ℕ) (event : Event) (link : Link) → n < services → MadeAt h n event → event.link ≡ link → (Holds : Body → Type 0)
+      → ((steps : List Step) → IsRunOf (role_at n) steps → Member event.body (made_on link steps) → (b : Body) × Member b (taken_bodies steps) × Holds b)
       → (b : Body) × Origin h n event b × Holds b
-  made-origin-some n event k lt m on Holds run =
+  made-origin-some n event link lt m on Holds run =
       let c = cause h n event lawful lt m in
-      let found = run (cause_steps h n event m c) (cause-run h n event m c) (cause-made h n event m c k on) in
+      let found = run (cause_steps h n event m c) (cause-run h n event m c) (cause-made h n event m c link on) in
       (found.0, origin h n event m c lawful found.0 found.1, found.2)
 
-  pub made-origin : (n : ℕ) (event : Event) (k : ℕ) → n < services → MadeAt h n event → event.link ≡ Service k → (b : Body)
-      → ((steps : List Step) → IsRunOf (role_at n) steps → Member event.body (made_on (Service k) steps) → Member b (taken_bodies steps))
+  pub made-origin : (n : ℕ) (event : Event) (link : Link) → n < services → MadeAt h n event → event.link ≡ link → (b : Body)
+      → ((steps : List Step) → IsRunOf (role_at n) steps → Member event.body (made_on link steps) → Member b (taken_bodies steps))
       → Origin h n event b
-  made-origin n event k lt m on b run =
+  made-origin n event link lt m on b run =
       let c = cause h n event lawful lt m in
-      origin h n event m c lawful b (run (cause_steps h n event m c) (cause-run h n event m c) (cause-made h n event m c k on))
+      origin h n event m c lawful b (run (cause_steps h n event m c) (cause-run h n event m c) (cause-made h n event m c link on))
 
-  module _ (s : ℕ) (event : Event) (t : TookAt h s event) (k n : ℕ) (on : event.link ≡ Service k) (leaves : sender_of (Service k) ≡ n) (lt : n < services) where
+  module _ (s : ℕ) (event : Event) (t : TookAt h s event) (link : Link) (n : ℕ) (on : event.link ≡ link) (leaves : sender_of link ≡ n) (lt : n < services) where
     made_there : MadeAt h n event
-    made_there = subst (λ m. MadeAt h m event) leaves (took-made-on h lawful s event (Service k) t on).made
+    made_there = subst (λ m. MadeAt h m event) leaves (took-made-on h lawful s event link t on).made
 
     below : event.clock < t.clock
-    below = (took-made-on h lawful s event (Service k) t on).clock
+    below = (took-made-on h lawful s event link t on).clock
 
     back_to : (b : Body) → Origin h n event b → Back h n event t.clock b
     back_to b o = record { made = made_there; clock = below; origin = o; before = let less = below in let more = o.clock in omega arith }
 
     -- from an event that was taken
-    pub took-origin-some : (Holds : Body → Type 0) → ((steps : List Step) → IsRunOf (role_at n) steps → Member event.body (made_on (Service k) steps) → (b : Body) × Member b (taken_bodies steps) × Holds b)
+    pub took-origin-some : (Holds : Body → Type 0) → ((steps : List Step) → IsRunOf (role_at n) steps → Member event.body (made_on link steps) → (b : Body) × Member b (taken_bodies steps) × Holds b)
         → BackSome h n event t.clock Holds
     took-origin-some Holds run =
-        let found = made-origin-some n event k lt made_there on Holds run in
+        let found = made-origin-some n event link lt made_there on Holds run in
         record { b = found.0; holds = found.2; back = back_to found.0 found.1 }
 
-    pub took-origin : (b : Body) → ((steps : List Step) → IsRunOf (role_at n) steps → Member event.body (made_on (Service k) steps) → Member b (taken_bodies steps)) → Back h n event t.clock b
-    took-origin b run = back_to b (made-origin n event k lt made_there on b run)
+    pub took-origin : (b : Body) → ((steps : List Step) → IsRunOf (role_at n) steps → Member event.body (made_on link steps) → Member b (taken_bodies steps)) → Back h n event t.clock b
+    took-origin b run = back_to b (made-origin n event link lt made_there on b run)

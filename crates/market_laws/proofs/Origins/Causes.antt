@@ -10,7 +10,6 @@ use Rattle.market_events.specs.declared.events.Entry.{Entry}
 use Rattle.market_events.specs.declared.events.Event.{Event}
 use Rattle.market_events.specs.declared.events.What.TheVariants.{Taken, Made}
 use Rattle.market_events.specs.declared.links.Link.{Link}
-use Rattle.market_events.specs.declared.links.Link.TheVariants.{Service}
 use Rattle.market_events.specs.declared.roles.Role.{Role}
 use Rattle.market_events.specs.Services.{IsRunOf, answers, fits, reactions}
 use Rattle.market_events.specs.Standing.{step_of, with_step}
@@ -138,8 +137,8 @@ module _ (h : Histories) (n : ℕ) (made : Event) (m : MadeAt h n made) (c : Cau
       (member-right made.body (filter_map (body_on made.link) (made_in steps)) (filter_map (body_on made.link) c.front ++ made.body ∷ filter_map (body_on made.link) c.back)
       (member-between (filter_map (body_on made.link) c.front) made.body (filter_map (body_on made.link) c.back)))
 
-  pub cause-made : (k : ℕ) → made.link ≡ Service k → Member made.body (made_on (Service k) (cause_steps h n made m c))
-  cause-made k on = subst (λ link. Member made.body (filter_map (body_on link) (made_in (cause_steps h n made m c)))) on made_by_them
+  pub cause-made : (link : Link) → made.link ≡ link → Member made.body (made_on link (cause_steps h n made m c))
+  cause-made link on = subst (λ link. Member made.body (filter_map (body_on link) (made_in (cause_steps h n made m c)))) on made_by_them
 
   pub cause-made-on : (link : Link) → made.link ≡ link → Member made.body (filter_map (body_on link) (made_in (cause_steps h n made m c)))
   cause-made-on link on = subst (λ link. Member made.body (filter_map (body_on link) (made_in (cause_steps h n made m c)))) on made_by_them

@@ -8,7 +8,6 @@ use Rattle.market_events.specs.declared.events.Entry.{Entry}
 use Rattle.market_events.specs.declared.events.Event.{Event}
 use Rattle.market_events.specs.declared.events.What.TheVariants.{Taken, Made}
 use Rattle.market_events.specs.declared.links.Link.{Link}
-use Rattle.market_events.specs.declared.links.Link.TheVariants.{Service}
 use Rattle.market_events.specs.Services.{IsRunOf}
 use Rattle.market_events.specs.Steps.{taken_bodies, made_in, body_on, made_on}
 use Rattle.market_events.specs.declared.nodes.TheConstants.{NODES}
@@ -59,8 +58,8 @@ module _ (h : Histories) (lawful : IsLawful h) (n : ℕ) (lt : n < services) whe
       subst (λ l. Member event.body (filter_map (body_on l) (made_in (steps_at n (journal_at h n))))) on
       (made_in_journal n event m.before (journal_at h n) lt (grown_at h n lawful a_node) (record { after = m.after; is = m.is }))
 
-  pub made-whole : (event : Event) (k : ℕ) → MadeAt h n event → event.link ≡ Service k → Member event.body (made_on (Service k) (steps_at n (journal_at h n)))
-  made-whole event k m on = made-whole-on event (Service k) m on
+  pub made-whole : (event : Event) (link : Link) → MadeAt h n event → event.link ≡ link → Member event.body (made_on link (steps_at n (journal_at h n)))
+  made-whole event link m on = made-whole-on event link m on
 
   module _ (event : Event) (t : TookAt h n event) where
     -- what it made before a cut is made by the steps before it
@@ -69,8 +68,8 @@ module _ (h : Histories) (lawful : IsLawful h) (n : ℕ) (lt : n < services) whe
         subst (λ l. Member other.body (filter_map (body_on l) (made_in (steps_at n t.before)))) on
         (made_in_journal n other m.before t.before lt t.grown (made_took h n lawful other event m t below))
 
-    pub made-before : (other : Event) (k : ℕ) → MadeAt h n other → other.clock < t.clock → other.link ≡ Service k → Member other.body (made_on (Service k) (steps_at n t.before))
-    made-before other k m below on = made-before-on other (Service k) m below on
+    pub made-before : (other : Event) (link : Link) → MadeAt h n other → other.clock < t.clock → other.link ≡ link → Member other.body (made_on link (steps_at n t.before))
+    made-before other link m below on = made-before-on other link m below on
 
     -- what it took before a cut, and what fitted there, is taken by the steps before it
     pub took-before : (other : Event) → (u : TookAt h n other) → u.clock < t.clock → FitsAt n u.before other → Member other.body (taken_bodies (steps_at n t.before))

@@ -7,7 +7,6 @@ use Rattle.market_events.specs.declared.bodies.Body.{Body}
 use Rattle.market_events.specs.declared.events.Event.{Event}
 use Rattle.market_events.specs.declared.events.What.TheVariants.{Taken}
 use Rattle.market_events.specs.declared.links.Link.{Link}
-use Rattle.market_events.specs.declared.links.Link.TheVariants.{Service}
 use Rattle.market_events.specs.Carried.{carries}
 use Rattle.market_events.specs.Links.{IsLink, sender_of, receiver_of}
 use Rattle.market_events.specs.Steps.{taken_bodies, made_on}
@@ -97,14 +96,14 @@ module _ (h : Histories) (s : ℕ) (event : Event) (lawful : IsLawful h) (t : To
           absurd (once-link test few passes other u found.1.clock_is same also)
 
   -- the same, where the link is a service link of the service n: by what its whole run made on it
-  pub few-service : (k n : ℕ) → event.link ≡ Service k → sender_of (Service k) ≡ n → n < services → (test : Body → Bool) → count_by test (made_on (Service k) (steps_at n (journal_at h n))) ≤ 1
+  pub few-service : (link : Link) (n : ℕ) → event.link ≡ link → sender_of link ≡ n → n < services → (test : Body → Bool) → count_by test (made_on link (steps_at n (journal_at h n))) ≤ 1
       → count_by test (bodies_on event.link (journal_at h (sender_of event.link))) ≤ 1
-  few-service k n on leaves lt test few =
+  few-service link n on leaves lt test few =
       subst (λ link. count_by test (bodies_on link (journal_at h (sender_of link))) ≤ 1) (sym on)
-      (subst (λ m. count_by test (bodies_on (Service k) (journal_at h m)) ≤ 1) (sym leaves)
-      (subst (λ l. count_by test l ≤ 1) (sym (view-made n lt (Service k) (grown_at h n lawful (omega arith)))) few))
+      (subst (λ m. count_by test (bodies_on link (journal_at h m)) ≤ 1) (sym leaves)
+      (subst (λ l. count_by test l ≤ 1) (sym (view-made n lt link (grown_at h n lawful (omega arith)))) few))
 
-  pub once-service : (k n : ℕ) → event.link ≡ Service k → sender_of (Service k) ≡ n → n < services → (test : Body → Bool) → count_by test (made_on (Service k) (steps_at n (journal_at h n))) ≤ 1 → test event.body ≡ true
-      → ComesAlone s test (Service k) → list_any test (taken_bodies (steps_at s t.before)) ≡ false
-  once-service k n on leaves lt test few passes alone =
-      once test (few-service k n on leaves lt test few) passes (subst (λ link. ComesAlone s test link) (sym on) alone)
+  pub once-service : (link : Link) (n : ℕ) → event.link ≡ link → sender_of link ≡ n → n < services → (test : Body → Bool) → count_by test (made_on link (steps_at n (journal_at h n))) ≤ 1 → test event.body ≡ true
+      → ComesAlone s test link → list_any test (taken_bodies (steps_at s t.before)) ≡ false
+  once-service link n on leaves lt test few passes alone =
+      once test (few-service link n on leaves lt test few) passes (subst (λ link. ComesAlone s test link) (sym on) alone)

@@ -19,13 +19,13 @@ use Rattle.market_events.specs.declared.events.Offer.TheVariants as offers
 use Rattle.market_events.specs.declared.links.TheConstants.{PRODUCT_TO_CART, PAYMENT_TO_STOCK}
 use Rattle.market_events.specs.declared.replies.Reply.TheVariants as reply
 use Rattle.market_events.specs.declared.requests.Ask.TheVariants as ask
-use Rattle.market_history.specs.Examples.{mug, id, request, given, taken, made, answered, create}
+use Rattle.market_history.specs.Examples.{mug, id, request, given, taken, made, answered, create, caller_node}
 use Rattle.market_history.specs.ExamplesCreate.{asked, to_stock, to_cart, to_lane}
 use Rattle.market_history.specs.Histories.{Histories, journal_at, with_journal}
 use Rattle.market_history.specs.Lawful.{IsLawful, IsLawfulAt}
 use Rattle.market_history.specs.Schedule.{merged, outcome_of, play_step}
 use Rattle.market_laws.specs.Copies.{ShowsFirst}
-use Rattle.market_laws.specs.CounterexamplesHistories.{given_late, given_again, forgetting, asks_line, told_unknown, taken_early, fails_another, GrowthCounterexamples, TakingCounterexamples, CausalCounterexamples, ReservedCounterexamples}
+use Rattle.market_laws.specs.CounterexamplesHistories.{given_late, given_again, forgetting, asks_line, told_unknown, taken_early, fails_another, GrowthCounterexamples, TakingCounterexamples, CausalCounterexamples, ReservedCounterexamples, another_lane_node}
 use Rattle.market_laws.specs.Entries.{total_entries}
 use Rattle.market_laws.specs.Merged.{IsDone}
 use Rattle.market_laws.proofs.Refuted.Refuting.{not_true, apart, above, nil_cons}
@@ -34,29 +34,29 @@ use Rattle.market_laws.proofs.Growth.Lawful.{lawful_of_grown}
 -- the same request again is not stamped, and there are as many entries
 again_unlawful : (n : ℕ) → IsLawful (given_again n) → ⊥
 unfolding given_again journal_at with_journal
-again_unlawful n lawful = apart 1 2 (lawful.lawful 15 (omega arith)).stamped.1.0.0 refl
+again_unlawful n lawful = apart 1 2 (lawful.lawful caller_node (omega arith)).stamped.1.0.0 refl
 
 again_total : (n : ℕ) → total_entries (given_again n) ≡ n + 2
 unfolding given_again with_journal
 again_total n = omega (arith, length-replicate {A = Entry})
 
-late_stamped : IsLawfulAt 15 (journal_at given_late 15) → ⊥
+late_stamped : IsLawfulAt caller_node (journal_at given_late caller_node) → ⊥
 unfolding journal_at with_journal
 late_stamped lawful = apart 9 1 lawful.stamped.0.0 refl
 
 pub growth : GrowthCounterexamples
 unfolding counts_of is_ready past_of journal_at with_journal node_outs grow play_step
 growth = record {
-  late_unlawful = λ lawful. late_stamped (lawful.lawful 15 (omega arith));
+  late_unlawful = λ lawful. late_stamped (lawful.lawful caller_node (omega arith));
   late_clocks = λ low. above 9 2 low.0 refl;
   late_journal = late_stamped;
-  late_grown = λ grown. late_stamped (lawful_of_grown 15 (journal_at given_late 15) grown);
+  late_grown = λ grown. late_stamped (lawful_of_grown caller_node (journal_at given_late caller_node) grown);
   misfit_no_step = λ formed. above 1 0 formed.ask.1 refl;
-  misfit_left = λ lawful. above 1 0 (lawful.lawful 15 (omega arith)).ready.0.0.ask.1 refl;
+  misfit_left = λ lawful. above 1 0 (lawful.lawful caller_node (omega arith)).ready.0.0.ask.1 refl;
   again_unlawful = again_unlawful (2 ^ 24);
   again_few = λ few. omega (arith, few, again_total (2 ^ 24));
-  elsewhere_unlawful = λ lawful. apart 15 11 (lawful.lawful 11 (omega arith)).ready.0.1 refl;
-  elsewhere_histories = λ histories. apart 15 11 (histories.journals 11 (omega arith)).0.what.1 refl;
+  elsewhere_unlawful = λ lawful. apart caller_node another_lane_node (lawful.lawful another_lane_node (omega arith)).ready.0.1 refl;
+  elsewhere_histories = λ histories. apart caller_node another_lane_node (histories.journals another_lane_node (omega arith)).0.what.1 refl;
 }
 
 -- what is shown where there are no changes
@@ -92,8 +92,8 @@ taking = record {
   never_stock_shows = λ shows. apart 1 0 (ap look_version (none_shown _ shows mug)) refl;
   never_left = λ e. apart 0 1 (ap (λ (h : Histories). length (journal_at h cart_node)) e) refl;
   never_done = λ each. never_is_done each.0;
-  waiting_unlawful = λ lawful. waiting_not_asked (lawful.lawful 15 (omega arith)).ready.1.1.0.2;
-  waiting_left = λ e. apart 2 4 (ap (λ (h : Histories). length (journal_at h 15)) e) refl;
+  waiting_unlawful = λ lawful. waiting_not_asked (lawful.lawful caller_node (omega arith)).ready.1.1.0.2;
+  waiting_left = λ e. apart 2 4 (ap (λ (h : Histories). length (journal_at h caller_node)) e) refl;
   waiting_done = λ each. waiting_is_done each.1.0;
 }
 

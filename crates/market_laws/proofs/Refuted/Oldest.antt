@@ -1,16 +1,17 @@
 -- Histories in which the oldest event is not there, not the only one, not found or not taken, by computation.
-use Rattle.std.proofs.Common.{◌≡◌, ℕ, ◌==◌, Bool, true, false, ◌||◌, List, [], ◌∷◌, length, Option, Some, None, inl, inr, refl, ap, sym, ◌∙◌, subst, eqb-true, arith, rules}
+use Rattle.std.proofs.Common.{◌≡◌, ℕ, Bool, true, false, ◌||◌, List, [], ◌∷◌, length, Option, Some, None, inl, inr, refl, ap, sym, ◌∙◌, subst, arith, rules}
 use Rattle.std.specs.List.{AllByRecursion, list_all}
 use Rattle.market_events.specs.declared.events.Entry.{Entry}
 use Rattle.market_events.specs.declared.events.Event.{Event}
 use Rattle.market_events.specs.declared.events.Offer.TheVariants as offers
 use Rattle.market_events.specs.declared.links.Link.{Link}
 use Rattle.market_events.specs.declared.links.Link.TheVariants.{Service, Asked, Told}
-use Rattle.market_events.specs.Links.{IsLink, product_node}
+use Rattle.market_events.specs.Links.{IsLink, product_node, same_link}
 use Rattle.market_events.specs.Offers.{counts_of, is_ready}
 use Rattle.market_events.specs.Orders.{is_nil}
-use Rattle.market_events.specs.declared.links.TheConstants.{PRODUCT_TO_CART, PRODUCT_TO_STOCK}
+use Rattle.market_events.specs.declared.links.TheConstants.{PRODUCT_TO_CART, PRODUCT_TO_STOCK, SERVICE_LINKS}
 use Rattle.market_events.proofs.Values.Lists.{and_both}
+use Rattle.market_events.proofs.Values.Offers.{same_link-true}
 use Rattle.market_history.specs.declared.schedule.Outcome.TheVariants as outcomes
 use Rattle.market_history.specs.Examples.{event, created}
 use Rattle.market_history.specs.ExamplesCreate.{past}
@@ -36,9 +37,9 @@ record IsQuiet (h : Histories) : Type 0 where
   told : (s lane : ℕ) → AllByRecursion (λ (j : List Entry). sent (Told s lane) j ≡ []) h
 
 -- an event that is no later than those on service links is no later than any
-least-of : (h : Histories) (event : Event) → IsQuiet h → below_all (λ k. list_all (is_no_later event) (outstanding h (Service k))) 16 ≡ true
+least-of : (h : Histories) (event : Event) → IsQuiet h → below_all (λ k. list_all (is_no_later event) (outstanding h (Service k))) SERVICE_LINKS ≡ true
     → (other : Link) → IsLink other → AllByRecursion (λ (e : Event). is_no_later event e ≡ true) (outstanding h other)
-least-of h event quiet each (Service k) on = all_true (is_no_later event) (outstanding h (Service k)) (below_all-each (λ x. list_all (is_no_later event) (outstanding h (Service x))) 16 each k on)
+least-of h event quiet each (Service k) on = all_true (is_no_later event) (outstanding h (Service k)) (below_all-each (λ x. list_all (is_no_later event) (outstanding h (Service x))) SERVICE_LINKS each k on)
 least-of h event quiet each (Asked lane s) on = subst (AllByRecursion (λ (e : Event). is_no_later event e ≡ true)) (sym (unmade-link h (Asked lane s) (quiet.asked lane s))) tt
 least-of h event quiet each (Told s lane) on = subst (AllByRecursion (λ (e : Event). is_no_later event e ≡ true)) (sym (unmade-link h (Told s lane) (quiet.told s lane))) tt
 
@@ -64,18 +65,18 @@ first_falls event rest first low =
     let same : to_cart_at 1 5 0 ≡ event = cc in
     not_true (subst (λ e. is_no_later e (to_cart_at 2 3 1) ≡ true) (sym same) low)
 
-alone : below_all (λ k. (k == 0) || is_nil (outstanding falling (Service k))) 16 ≡ true
+alone : below_all (λ k. same_link (Service k) PRODUCT_TO_CART || is_nil (outstanding falling (Service k))) SERVICE_LINKS ≡ true
 unfolding journal_at with_journal
 alone = refl
 
-falling_at : (k : ℕ) (zeroth : Bool) → (k == 0) ≡ zeroth → (zeroth || is_nil (outstanding falling (Service k))) ≡ true → (number : ℕ) → IsOldest falling (Service k) number → ⊥
+falling_at : (link : Link) (to_cart : Bool) → same_link link PRODUCT_TO_CART ≡ to_cart → (to_cart || is_nil (outstanding falling link)) ≡ true → (number : ℕ) → IsOldest falling link number → ⊥
 unfolding journal_at with_journal
-falling_at k true is each number o =
-    first_falls o.event o.rest (subst (λ n. outstanding falling (Service n) ≡ o.event ∷ o.rest) (eqb-true k 0 is) o.first) (o.least PRODUCT_TO_CART (omega arith)).1.0
-falling_at k false is each number o = nil_cons o.event o.rest (sym (nil_of (outstanding falling (Service k)) each) ∙ o.first)
+falling_at link true is each number o =
+    first_falls o.event o.rest (subst (λ l. outstanding falling l ≡ o.event ∷ o.rest) (same_link-true link PRODUCT_TO_CART is) o.first) (o.least PRODUCT_TO_CART (omega arith)).1.0
+falling_at link false is each number o = nil_cons o.event o.rest (sym (nil_of (outstanding falling link) each) ∙ o.first)
 
 no_oldest : (link : Link) (number : ℕ) → IsLink link → IsOldest falling link number → ⊥
-no_oldest (Service k) number on o = falling_at k (k == 0) refl (below_all-each (λ k. (k == 0) || is_nil (outstanding falling (Service k))) 16 alone k on) number o
+no_oldest (Service k) number on o = falling_at (Service k) (same_link (Service k) PRODUCT_TO_CART) refl (below_all-each (λ k. same_link (Service k) PRODUCT_TO_CART || is_nil (outstanding falling (Service k))) SERVICE_LINKS alone k on) number o
 no_oldest (Asked lane s) number on o = nil_cons o.event o.rest (sym (unmade-link falling (Asked lane s) (quiet_falling.asked lane s)) ∙ o.first)
 no_oldest (Told s lane) number on o = nil_cons o.event o.rest (sym (unmade-link falling (Told s lane) (quiet_falling.told s lane)) ∙ o.first)
 

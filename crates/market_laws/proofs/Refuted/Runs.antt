@@ -2,7 +2,8 @@
 use Rattle.std.proofs.Common.{ℕ, List, length, filter_map, inl, refl, ap, arith}
 use Rattle.market_events.specs.declared.bodies.Body.{Body}
 use Rattle.market_events.specs.declared.bodies.Body.TheVariants as body
-use Rattle.market_events.specs.declared.links.Link.TheVariants.{Service}
+use Rattle.market_events.specs.declared.links.TheConstants.{CART_TO_STOCK, ORDER_TO_SELLER, SHIPMENT_TO_ORDER}
+use Rattle.market_events.specs.declared.links.Link.{Link}
 use Rattle.market_events.specs.declared.requests.Ask.{Ask}
 use Rattle.market_events.specs.declared.requests.Ask.TheVariants as ask
 use Rattle.market_events.specs.Services.{answers, fits}
@@ -10,9 +11,9 @@ use Rattle.market_events.specs.Steps.{Sending, body_on}
 use Rattle.market_laws.specs.CounterexamplesRuns.{TellingCounterexamples, CartCounterexamples, ProductCounterexamples, StockCounterexamples, OrderCounterexamples, PaymentCounterexamples, ShipmentCounterexamples}
 use Rattle.market_laws.proofs.Refuted.Refuting.{not_true, apart, above, not_only}
 
--- how many bodies are sent on a service link
-abbrev sent_on : ℕ → List Sending → ℕ
-sent_on k made = length (filter_map (body_on (Service k)) made)
+-- how many bodies are sent on a link
+abbrev sent_on : Link → List Sending → ℕ
+sent_on link made = length (filter_map (body_on link) made)
 
 -- the checkout, the customer who asks for one, and the total that a body tells
 abbrev checkout_in : Body → ℕ
@@ -52,7 +53,7 @@ cart = record {
   unsent_ended = λ few. above 1 0 few refl;
   twice_no_run = λ run. apart 2 1 (ap length run.0.made) refl;
   twice_sent = λ few. above 2 1 few refl;
-  another_no_run = λ run. apart 1 0 (ap (sent_on 2) run.0.made) refl;
+  another_no_run = λ run. apart 1 0 (ap (sent_on CART_TO_STOCK) run.0.made) refl;
   another_sent = inl refl;
   another_asked = λ here. not_only _ _ (λ same. apart 8 7 (ap customer_in same) refl) here;
 }
@@ -98,7 +99,7 @@ order = record {
   ordered_once = λ few. above 2 1 few refl;
   ordered_held = inl refl;
   ordered_total = λ e. apart 3900 1950 e refl;
-  invoiced_no_run = λ run. apart 0 1 (ap (sent_on 6) run.0.made) refl;
+  invoiced_no_run = λ run. apart 0 1 (ap (sent_on ORDER_TO_SELLER) run.0.made) refl;
   invoiced_once = λ few. above 2 1 few refl;
   another_no_run = λ run. apart 1 2 (ap length run.0.made) refl;
   another_made = inl refl;
@@ -146,7 +147,7 @@ shipment = record {
   not_shipped_each = λ e. apart 0 1 e refl;
   paid_no_run = λ run. apart 0 2 (ap length run.0.made) refl;
   paid_once = λ few. above 2 1 few refl;
-  unshipped_no_run = λ run. apart 1 0 (ap (sent_on 13) run.0.made) refl;
+  unshipped_no_run = λ run. apart 1 0 (ap (sent_on SHIPMENT_TO_ORDER) run.0.made) refl;
   unshipped_customers = λ e. apart 0 1 (ap length e) refl;
   unshipped_made = refl;
   unshipped_before = λ here. here;

@@ -21,7 +21,7 @@ use Rattle.market_history.specs.Blocks.{Out, Part, grow, node_outs, service_step
 use Rattle.market_history.specs.Book.{acts_of, book, tables_at_end}
 use Rattle.market_history.specs.Causality.{past_of}
 use Rattle.market_history.specs.Checkouts.{IsDecided}
-use Rattle.market_history.specs.Examples.{id, mug, request, give, offer, create}
+use Rattle.market_history.specs.Examples.{id, mug, request, give, offer, create, caller_lane, caller_node}
 use Rattle.market_history.specs.Histories.{Histories, journal_at, with_journal, no_histories}
 use Rattle.market_history.specs.Once.{reply_at}
 use Rattle.market_history.specs.Outstanding.{IsSettled}
@@ -78,24 +78,24 @@ pub settling : SettledCounterexamples
 unfolding answers fits reactions counts_of is_ready past_of journal_at with_journal node_outs grow play_step acts_of tables_at_end book
 settling = record {
   waiting_lawful = play_keeps no_histories (give 1 create ∷ []) nothing_lawful (creates, tt);
-  waiting_unsettled = λ settled. apart 1 0 (ap length (settled (Asked 7 product_node) (omega arith, omega arith))) refl;
+  waiting_unsettled = λ settled. apart 1 0 (ap length (settled (Asked caller_lane product_node) (omega arith, omega arith))) refl;
   waiting_kept = inl refl;
   waiting_idle = λ e. not_true (sym e);
   waiting_answered = λ e. not_true e;
-  forgotten_unlawful = λ lawful. apart 1 2 (ap length (lawful.lawful 15 (omega arith)).blocks) refl;
+  forgotten_unlawful = λ lawful. apart 1 2 (ap length (lawful.lawful caller_node (omega arith)).blocks) refl;
   forgotten_settled = none_forgotten;
   forgotten_kept = inl refl;
   forgotten_idle = λ e. not_true (sym e);
   forgotten_answered = λ e. not_true e;
   undecided_lawful = play_keeps no_histories (give 5 (ask.Checkout 7) ∷ []) nothing_lawful (checks_out, tt);
-  undecided_unsettled = λ settled. apart 1 0 (ap length (settled (Asked 7 cart_node) (omega arith, omega arith))) refl;
+  undecided_unsettled = λ settled. apart 1 0 (ap length (settled (Asked caller_lane cart_node) (omega arith, omega arith))) refl;
   undecided_kept = refl;
   undecided_decided = λ decided. unanswered undecided (id 5) refl decided;
-  unordered_unlawful = λ lawful. apart 0 1 (ap (λ (parts : List Part). length (filter_map made_by parts)) (lawful.lawful 15 (omega arith)).blocks) refl;
+  unordered_unlawful = λ lawful. apart 0 1 (ap (λ (parts : List Part). length (filter_map made_by parts)) (lawful.lawful caller_node (omega arith)).blocks) refl;
   unordered_settled = none_unordered;
   unordered_kept = refl;
   unordered_decided = λ decided. unreserved whole_unordered (id 5) 1950 refl refl decided;
-  untold_lawful = play_keeps no_histories (give 1 create ∷ offer (Asked 7 product_node) 1 ∷ []) nothing_lawful (creates, (tt, tt));
+  untold_lawful = play_keeps no_histories (give 1 create ∷ offer (Asked caller_lane product_node) 1 ∷ []) nothing_lawful (creates, (tt, tt));
   untold_unsettled = λ settled. apart 1 0 (ap length (settled PRODUCT_TO_CART (omega arith))) refl;
   untold_book = λ same. apart 0 1 (ap look_version (same.cart_copy mug)) refl;
   never_settled = none_made;

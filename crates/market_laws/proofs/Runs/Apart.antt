@@ -18,6 +18,7 @@ use Rattle.market_events.specs.Shipments.{packages_in, packages, items_made, is_
 use Rattle.market_events.specs.Steps.{Step}
 use Rattle.market_events.specs.Stocks.{confirms}
 use Rattle.market_events.specs.WellFormed.{key_below, keys_rise, total_of}
+use Rattle.market_events.specs.declared.links.TheConstants.{SHIPMENT_TO_CUSTOMER}
 use Rattle.market_events.proofs.Values.Lists.{and_both, and_from, and_false, or_parts, not_true, false_from, any_weaker, list_any-push}
 use Rattle.market_events.proofs.Runs.Orders.{is_item_for}
 use Rattle.market_events.proofs.Values.Same.{same_key-swap}
@@ -125,15 +126,15 @@ delivered-apart before run =
 pub items-once : (steps : List Step) → IsRunOf Role.Shipment steps → lines_apart [] (items_made steps) ≡ true
 items-once steps run = run_with Role.Shipment (λ steps. lines_apart [] (items_made steps) ≡ true) keeps refl steps run
   where
-    asked : (before : List Step) → IsRunOf Role.Shipment before → (id : RequestId) (a : Ask) → lines_apart (items_made before) (flat_map items_in (on 15 (shipment_asked (shipment_sums before) id a))) ≡ true
+    asked : (before : List Step) → IsRunOf Role.Shipment before → (id : RequestId) (a : Ask) → lines_apart (items_made before) (flat_map items_in (on SHIPMENT_TO_CUSTOMER (shipment_asked (shipment_sums before) id a))) ≡ true
     asked before run id ask.Deliver = ap (lines_apart (items_made before)) (deliver_rows-items id (delivered_of (open_packages before)) (length (oldest_of (open_packages before)))) ∙ delivered-apart before run
     asked before run id other = refl
 
-    new : (before : List Step) (b : Body) → IsRunOf Role.Shipment before → lines_apart (items_made before) (flat_map items_in (on 15 (shipment_rows (shipment_sums before) b))) ≡ true
+    new : (before : List Step) (b : Body) → IsRunOf Role.Shipment before → lines_apart (items_made before) (flat_map items_in (on SHIPMENT_TO_CUSTOMER (shipment_rows (shipment_sums before) b))) ≡ true
     new before (body.Asked request) run = asked before run request.id request.ask
     new before other run = refl
 
     keeps : (before : List Step) (s : Step) → IsRunOf Role.Shipment before → Follows Role.Shipment before s → lines_apart [] (items_made before) ≡ true → lines_apart [] (items_made (before ++ s ∷ [])) ≡ true
     keeps before s run follows apart =
         more-apart (items_made (before ++ s ∷ [])) (items_made before) (items_of s) (items_made-push before s) apart
-        (ap (λ made. lines_apart (items_made before) (flat_map items_in (on 15 made))) (follows.made ∙ answers-shipment before s.from s.body) ∙ new before s.body run)
+        (ap (λ made. lines_apart (items_made before) (flat_map items_in (on SHIPMENT_TO_CUSTOMER made))) (follows.made ∙ answers-shipment before s.from s.body) ∙ new before s.body run)

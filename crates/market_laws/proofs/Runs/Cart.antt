@@ -33,8 +33,8 @@ cart_makes P holds before s follows = subst (λ made. P made s.body) (sym (follo
 
 -- a request with the id is told, or sent on, once; and the end of a checkout is told once
 pub record IsFew (id : RequestId) (made : List Sending) (b : Body) : Type 0 where
-  pub told : count_all (tells id) made + count_on 2 (reserves id) made ≡ cond (asks id b) 1 0 + cond (ends id b) 1 0
-  pub sent : count_on 2 (reserves id) made ≤ cond (asks id b) 1 0
+  pub told : count_all (tells id) made + count_on CART_TO_STOCK (reserves id) made ≡ cond (asks id b) 1 0 + cond (ends id b) 1 0
+  pub sent : count_on CART_TO_STOCK (reserves id) made ≤ cond (asks id b) 1 0
 
 -- what the cart makes is few
 makes_few : (id : RequestId) (s : CartSums) (b : Body) → IsHere Role.Cart b → IsFew id (cart_rows s b) b
@@ -78,12 +78,12 @@ few-at id before s follows = cart_makes (λ made b. IsHere Role.Cart b → IsFew
 -- as much is told and sent on as is asked and ended
 pub told-sent-is : (steps : List Step) → IsRunOf Role.Cart steps → (id : RequestId) → count_by (tells id) (bodies_made steps) + count_by (reserves id) (made_on CART_TO_STOCK steps) ≡ count_by (asks id) (taken_bodies steps) + count_by (ends id) (taken_bodies steps)
 told-sent-is steps run id =
-    made-is-taken Role.Cart (λ made. count_all (tells id) made + count_on 2 (reserves id) made) (λ b. cond (asks id b) 1 0 + cond (ends id b) 1 0) (adding-both (adding-all (tells id)) (adding-on 2 (reserves id))) (λ before s follows. (few-at id before s follows).told) steps run
+    made-is-taken Role.Cart (λ made. count_all (tells id) made + count_on CART_TO_STOCK (reserves id) made) (λ b. cond (asks id b) 1 0 + cond (ends id b) 1 0) (adding-both (adding-all (tells id)) (adding-on CART_TO_STOCK (reserves id))) (λ before s follows. (few-at id before s follows).told) steps run
     ∙ sum_by_plus (λ b. cond (asks id b) 1 0) (λ b. cond (ends id b) 1 0) (taken_bodies steps)
 
 -- no more is sent on than was asked
 pub sent-le-asked : (steps : List Step) → IsRunOf Role.Cart steps → (id : RequestId) → count_by (reserves id) (made_on CART_TO_STOCK steps) ≤ count_by (asks id) (taken_bodies steps)
-sent-le-asked steps run id = made-le-taken Role.Cart (count_on 2 (reserves id)) (λ b. cond (asks id b) 1 0) (adding-on 2 (reserves id)) (λ before s follows. (few-at id before s follows).sent) steps run
+sent-le-asked steps run id = made-le-taken Role.Cart (count_on CART_TO_STOCK (reserves id)) (λ b. cond (asks id b) 1 0) (adding-on CART_TO_STOCK (reserves id)) (λ before s follows. (few-at id before s follows).sent) steps run
 
 -- a checkout ends only where it was sent on and did not end
 ends_fit : (before : List Step) (id : RequestId) (b : Body) → cart_fits before b ≡ true → ends id b ≡ true → (list_any (reserves id) (made_on CART_TO_STOCK before) ≡ true) × (list_any (ends id) (taken_bodies before) ≡ false)
@@ -110,7 +110,7 @@ ended-le-sent steps run id = run_has Role.Cart (λ steps. count_by (ends id) (ta
       arith,
       one_more before s follows few (ends id s.body) refl,
       sum_taken-push (λ b. cond (ends id b) 1 0) before s,
-      sum_made-push (count_on 2 (reserves id)) (adding-on 2 (reserves id)) before s,
+      sum_made-push (count_on CART_TO_STOCK (reserves id)) (adding-on CART_TO_STOCK (reserves id)) before s,
     )
 
 -- no more is told than was asked
@@ -123,33 +123,33 @@ IsSentBy (body.Reserve checkout customer lines) b = b ≡ body.Asked (record { i
 IsSentBy other b = ⊥
 
 -- what is made to stock is for a request for a checkout
-sent_by : (s : CartSums) (b made : Body) → on 2 (cart_rows s b) ≡ made ∷ [] → IsSentBy made b
+sent_by : (s : CartSums) (b made : Body) → on CART_TO_STOCK (cart_rows s b) ≡ made ∷ [] → IsSentBy made b
 sent_by s (body.Asked request) made is = asked request.id request.ask is
   where
-    views : (id : RequestId) (a : Ask) (look : Look) → on 2 (view_rows id look) ≡ made ∷ [] → IsSentBy made (body.Asked (record { id = id; ask = a }))
+    views : (id : RequestId) (a : Ask) (look : Look) → on CART_TO_STOCK (view_rows id look) ≡ made ∷ [] → IsSentBy made (body.Asked (record { id = id; ask = a }))
     views id a Unknown is = cc
     views id a (Gone v) is = cc
     views id a (Live v price freight) is = cc
 
-    by_room : (id : RequestId) (a : Ask) (full : Bool) (quantity : ℕ) → on 2 (cond full (refused cart_node id rule.CartFull) (told cart_node id (reply.Line quantity) ∷ [])) ≡ made ∷ [] → IsSentBy made (body.Asked (record { id = id; ask = a }))
+    by_room : (id : RequestId) (a : Ask) (full : Bool) (quantity : ℕ) → on CART_TO_STOCK (cond full (refused cart_node id rule.CartFull) (told cart_node id (reply.Line quantity) ∷ [])) ≡ made ∷ [] → IsSentBy made (body.Asked (record { id = id; ask = a }))
     by_room id a true quantity is = cc
     by_room id a false quantity is = cc
 
-    lines : (id : RequestId) (a : Ask) (key : ProductKey) (quantity : ℕ) (look : Look) (basket : List (ProductKey × Held)) → on 2 (line_rows id key quantity look basket) ≡ made ∷ [] → IsSentBy made (body.Asked (record { id = id; ask = a }))
+    lines : (id : RequestId) (a : Ask) (key : ProductKey) (quantity : ℕ) (look : Look) (basket : List (ProductKey × Held)) → on CART_TO_STOCK (line_rows id key quantity look basket) ≡ made ∷ [] → IsSentBy made (body.Asked (record { id = id; ask = a }))
     lines id a key quantity Unknown basket is = cc
     lines id a key quantity (Gone v) basket is = cc
     lines id a key quantity (Live v price freight) basket is = by_room id a (nat_le most_lines (length basket) && not (has_key basket key)) quantity is
 
-    removes : (id : RequestId) (a : Ask) (has : Bool) → on 2 (cond has (told cart_node id reply.Removed ∷ []) (refused cart_node id rule.NoLine)) ≡ made ∷ [] → IsSentBy made (body.Asked (record { id = id; ask = a }))
+    removes : (id : RequestId) (a : Ask) (has : Bool) → on CART_TO_STOCK (cond has (told cart_node id reply.Removed ∷ []) (refused cart_node id rule.NoLine)) ≡ made ∷ [] → IsSentBy made (body.Asked (record { id = id; ask = a }))
     removes id a true is = cc
     removes id a false is = cc
 
-    checkouts : (id : RequestId) (customer : ℕ) (basket : List (ProductKey × Held)) (first : Option ProductKey) → on 2 (checkout_rows id customer s.look basket first) ≡ made ∷ [] → IsSentBy made (body.Asked (record { id = id; ask = ask.Checkout customer }))
+    checkouts : (id : RequestId) (customer : ℕ) (basket : List (ProductKey × Held)) (first : Option ProductKey) → on CART_TO_STOCK (checkout_rows id customer s.look basket first) ≡ made ∷ [] → IsSentBy made (body.Asked (record { id = id; ask = ask.Checkout customer }))
     checkouts id customer [] first is = cc
     checkouts id customer (e ∷ es) (Some key) is = cc
     checkouts id customer (e ∷ es) None is = subst (λ m. IsSentBy m (body.Asked (record { id = id; ask = ask.Checkout customer }))) (one is) refl
 
-    asked : (id : RequestId) (a : Ask) → on 2 (cart_asked s id a) ≡ made ∷ [] → IsSentBy made (body.Asked (record { id = id; ask = a }))
+    asked : (id : RequestId) (a : Ask) → on CART_TO_STOCK (cart_asked s id a) ≡ made ∷ [] → IsSentBy made (body.Asked (record { id = id; ask = a }))
     asked id (ask.View key) is = views id (ask.View key) (s.look key) is
     asked id (ask.Line customer key quantity voucher) is = lines id (ask.Line customer key quantity voucher) key quantity (s.look key) (s.basket customer) is
     asked id (ask.Remove customer key) is = removes id (ask.Remove customer key) (has_key (s.basket customer) key) is
@@ -160,6 +160,6 @@ sent_by s other made is = cc
 -- a checkout that was sent on was asked for
 pub sent-asked : (steps : List Step) → IsRunOf Role.Cart steps → (checkout : RequestId) (customer : ℕ) (lines : List PricedLine) → Member (body.Reserve checkout customer lines) (made_on CART_TO_STOCK steps) → Member (body.Asked (record { id = checkout; ask = ask.Checkout customer })) (taken_bodies steps)
 sent-asked steps run checkout customer lines here =
-    let m = (made_by Role.Cart 2 steps (body.Reserve checkout customer lines) run here).1 in
-    let is = sent_by (cart_sums m.before) m.step.body (body.Reserve checkout customer lines) (sym (ap (on 2) (m.follows.made ∙ answers-cart m.before m.step.from m.step.body)) ∙ m.here) in
+    let m = (made_by Role.Cart CART_TO_STOCK steps (body.Reserve checkout customer lines) run here).1 in
+    let is = sent_by (cart_sums m.before) m.step.body (body.Reserve checkout customer lines) (sym (ap (on CART_TO_STOCK) (m.follows.made ∙ answers-cart m.before m.step.from m.step.body)) ∙ m.here) in
     subst (λ b. Member b (taken_bodies steps)) is (member-taken steps m.before m.step m.after m.is)

@@ -77,7 +77,7 @@ module _ (c : RequestId) (r : Reply) where
       let once = asked-once Role.Cart (before ++ s ∷ []) (run-push Role.Cart before s run follows) c in
       let taken = sum_taken-push (λ b. cond (asks c b) 1 0) before s in
       let few = (few-at c before s follows).sent in
-      let sent = sum_made-push (count_on 2 (reserves c)) (adding-on 2 (reserves c)) before s in
+      let sent = sum_made-push (count_on CART_TO_STOCK (reserves c)) (adding-on CART_TO_STOCK (reserves c)) before s in
       at_once rule is early (omega (arith, taken, asked)) (omega (arith, sent, few, taken, once, asked, unsent))
   kept_for before s run follows (by_stock key rule is here) = by_stock key rule is (still before s (body.ReserveFailed c key rule) here)
   kept_for before s run follows (by_end end is here) = by_end end is (still before s (body.Ended c end) here)
@@ -106,7 +106,7 @@ module _ (c : RequestId) (r : Reply) where
           let few = (few-at c before s follows).told in
           let some = count-some (tells c) (map (λ (m : Sending). m.1) s.made) (any_of_member (tells c) (body.Told c r) (map (λ (m : Sending). m.1) s.made) here (same_id-self c)) in
           let le = sent-le-asked before run c in
-          let sent = sum_made-push (count_on 2 (reserves c)) (adding-on 2 (reserves c)) before s in
+          let sent = sum_made-push (count_on CART_TO_STOCK (reserves c)) (adding-on CART_TO_STOCK (reserves c)) before s in
           at_once rule is why (omega (arith, taken, one)) (omega (arith, sent, few, some, one, none, le, taken, once))
         where
           unended : (b : Body) → asks c b ≡ true → ◌≡◌ {A = ℕ} (cond (ends c b) 1 0) 0

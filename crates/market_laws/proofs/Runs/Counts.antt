@@ -18,13 +18,18 @@ use Rattle.market_events.proofs.Values.Lists.{count-none}
 use Rattle.market_events.proofs.Steps.Taken.{taken_bodies-push, made_in-push, fits-parts, run_has, run-push}
 use Rattle.market_laws.specs.Runs.{Member, bodies_made, tells}
 
+-- the link joins two services
+abbrev pub IsBetween : Link → Type 0
+IsBetween (Service n) = Unit {0}
+IsBetween other = ⊥
+
 -- what is made on a link
-abbrev pub on : ℕ → List Sending → List Body
-on n made = filter_map (body_on (Service n)) made
+abbrev pub on : Link → List Sending → List Body
+on link made = filter_map (body_on link) made
 
 -- how many bodies on the link pass
-abbrev pub count_on : ℕ → (Body → Bool) → List Sending → ℕ
-count_on n test made = count_by test (on n made)
+abbrev pub count_on : Link → (Body → Bool) → List Sending → ℕ
+count_on link test made = count_by test (on link made)
 
 -- how many bodies pass, on whichever link
 abbrev pub count_all : (Body → Bool) → List Sending → ℕ
@@ -35,14 +40,14 @@ pub record Joining {B : Type 0} (part : List Sending → List B) : Type 0 where
   pub none : part [] ≡ []
   pub joins : (xs ys : List Sending) → part (xs ++ ys) ≡ part xs ++ part ys
 
-pub joining-on : (n : ℕ) → Joining (on n)
-joining-on n = record { none = refl; joins = filter_map-append (body_on (Service n)) }
+pub joining-on : (link : Link) → Joining (on link)
+joining-on link = record { none = refl; joins = filter_map-append (body_on link) }
 
 -- those of a kind alone
-pub joining-kind : (n : ℕ) (test : Body → Bool) → Joining (λ made. filter test (on n made))
-joining-kind n test = record {
+pub joining-kind : (link : Link) (test : Body → Bool) → Joining (λ made. filter test (on link made))
+joining-kind link test = record {
   none = refl;
-  joins = λ xs ys. ap (filter test) (filter_map-append (body_on (Service n)) xs ys) ∙ filter-append test (on n xs) (on n ys);
+  joins = λ xs ys. ap (filter test) (filter_map-append (body_on link) xs ys) ∙ filter-append test (on link xs) (on link ys);
 }
 
 -- a number that adds up over what is made
@@ -50,10 +55,10 @@ pub record Adding (f : List Sending → ℕ) : Type 0 where
   pub none : f [] ≡ 0
   pub joins : (xs ys : List Sending) → f (xs ++ ys) ≡ f xs + f ys
 
-pub adding-on : (n : ℕ) (test : Body → Bool) → Adding (count_on n test)
-adding-on n test = record {
+pub adding-on : (link : Link) (test : Body → Bool) → Adding (count_on link test)
+adding-on link test = record {
   none = refl;
-  joins = λ xs ys. ap (count_by test) (filter_map-append (body_on (Service n)) xs ys) ∙ sum_by-append (λ b. cond (test b) 1 0) (on n xs) (on n ys);
+  joins = λ xs ys. ap (count_by test) (filter_map-append (body_on link) xs ys) ∙ sum_by-append (λ b. cond (test b) 1 0) (on link xs) (on link ys);
 }
 
 pub adding-all : (test : Body → Bool) → Adding (count_all test)

@@ -15,7 +15,6 @@ use Rattle.market_events.specs.declared.changes.Look.{Look}
 use Rattle.market_events.specs.declared.changes.Look.TheVariants.{Unknown, Gone, Live}
 use Rattle.market_events.specs.declared.links.TheConstants.{ORDER_TO_PAYMENT, ORDER_TO_CART}
 use Rattle.market_events.specs.declared.links.TheConstants.{SHIPMENT_TO_ORDER}
-use Rattle.market_events.specs.declared.replies.OrderStatus.{OrderStatus}
 use Rattle.market_events.specs.declared.replies.Reply.TheVariants as reply
 use Rattle.market_events.specs.declared.replies.Rule.TheVariants as rule
 use Rattle.market_events.specs.declared.replies.UndoneRule.TheVariants as undone
@@ -23,13 +22,15 @@ use Rattle.market_events.specs.declared.requests.Ask.{Ask}
 use Rattle.market_events.specs.declared.requests.Ask.TheVariants as ask
 use Rattle.market_events.specs.Carts.{Held, CartSums, cart_sums, cart_asked, cart_rows, checkout_rows, first_gone, has_key, line_rows, remove_rows, view_rows}
 use Rattle.market_events.specs.Links.{cart_node}
-use Rattle.market_events.specs.Orders.{OrderSums, order_sums, order_reply_rows, order_asked, order_rows}
+use Rattle.market_events.specs.Orders.{OrderSums, order_sums, order_rows}
 use Rattle.market_events.specs.declared.roles.Role.{Role}
 use Rattle.market_events.specs.Services.{Follows, IsRunOf}
 use Rattle.market_events.specs.Shipments.{ShipmentSums, shipment_sums, shipment_asked, shipment_rows, delivered_of, deliver_rows, oldest_of}
 use Rattle.market_events.specs.Steps.{Step, Sending, taken_bodies, made_in, made_on, told, refused}
 use Rattle.market_events.specs.Stocks.{reservation_in}
 use Rattle.market_events.specs.WellFormed.{most_lines}
+use Rattle.market_events.specs.declared.links.Link.{Link}
+use Rattle.market_laws.proofs.Runs.Orders.{quiet-order}
 use Rattle.market_events.proofs.Runs.Carts.{answers-cart}
 use Rattle.market_events.proofs.Runs.Orders.{answers-order}
 use Rattle.market_events.proofs.Steps.SellerEntries.{invoice_in}
@@ -49,28 +50,19 @@ made-gathered role f g joining each steps run = run_has role (λ steps. f (made_
         ∙ sym (ap (filter_map g) (taken_bodies-push before s) ∙ filter_map-append g (taken_bodies before) (s.body ∷ []))
 
 -- of a link alone
-joining-gathered : {B : Type 0} (n : ℕ) (f : Body → Option B) → Joining (λ made. filter_map f (on n made))
-joining-gathered n f = record {
+joining-gathered : {B : Type 0} (link : Link) (f : Body → Option B) → Joining (λ made. filter_map f (on link made))
+joining-gathered link f = record {
   none = refl;
-  joins = λ xs ys. ap (filter_map f) ((joining-on n).joins xs ys) ∙ filter_map-append f (on n xs) (on n ys);
+  joins = λ xs ys. ap (filter_map f) ((joining-on link).joins xs ys) ∙ filter_map-append f (on link xs) (on link ys);
 }
-
--- orders make nothing of a request on a service link
-quiet-order : (n : ℕ) (s : OrderSums) (id : RequestId) (a : Ask) → on n (order_asked s id a) ≡ []
-quiet-order n s id (ask.Order checkout) = by_status (s.status checkout)
-  where
-    by_status : (st : Option OrderStatus) → on n (order_reply_rows id st (s.total checkout)) ≡ []
-    by_status None = refl
-    by_status (Some st) = refl
-quiet-order n s id other = refl
 
 pub invoices-held : (steps : List Step) → IsRunOf Role.Order steps → filter_map invoice_in (made_on ORDER_TO_PAYMENT steps) ≡ filter_map reservation_in (taken_bodies steps)
 invoices-held =
-    made-gathered Role.Order (λ made. filter_map invoice_in (on 5 made)) reservation_in (joining-gathered 5 invoice_in)
-    (λ before s follows. ap (λ made. filter_map invoice_in (on 5 made)) (follows.made ∙ answers-order before s.from s.body) ∙ each (order_sums before) s.body)
+    made-gathered Role.Order (λ made. filter_map invoice_in (on ORDER_TO_PAYMENT made)) reservation_in (joining-gathered ORDER_TO_PAYMENT invoice_in)
+    (λ before s follows. ap (λ made. filter_map invoice_in (on ORDER_TO_PAYMENT made)) (follows.made ∙ answers-order before s.from s.body) ∙ each (order_sums before) s.body)
   where
-    each : (s : OrderSums) (b : Body) → filter_map invoice_in (on 5 (order_rows s b)) ≡ cons_option (reservation_in b) []
-    each s (body.Asked request) = ap (filter_map invoice_in) (quiet-order 5 s request.id request.ask)
+    each : (s : OrderSums) (b : Body) → filter_map invoice_in (on ORDER_TO_PAYMENT (order_rows s b)) ≡ cons_option (reservation_in b) []
+    each s (body.Asked request) = ap (filter_map invoice_in) (quiet-order ORDER_TO_PAYMENT tt s request.id request.ask)
     each s other = refl
 
 -- the checkout whose order ended with no payment
@@ -80,11 +72,11 @@ ended_unpaid other = None
 
 pub ends-failed : (steps : List Step) → IsRunOf Role.Order steps → filter_map ended_unpaid (made_on ORDER_TO_CART steps) ≡ filter_map failed_in (taken_bodies steps)
 ends-failed =
-    made-gathered Role.Order (λ made. filter_map ended_unpaid (on 7 made)) failed_in (joining-gathered 7 ended_unpaid)
-    (λ before s follows. ap (λ made. filter_map ended_unpaid (on 7 made)) (follows.made ∙ answers-order before s.from s.body) ∙ each (order_sums before) s.body)
+    made-gathered Role.Order (λ made. filter_map ended_unpaid (on ORDER_TO_CART made)) failed_in (joining-gathered ORDER_TO_CART ended_unpaid)
+    (λ before s follows. ap (λ made. filter_map ended_unpaid (on ORDER_TO_CART made)) (follows.made ∙ answers-order before s.from s.body) ∙ each (order_sums before) s.body)
   where
-    each : (s : OrderSums) (b : Body) → filter_map ended_unpaid (on 7 (order_rows s b)) ≡ cons_option (failed_in b) []
-    each s (body.Asked request) = ap (filter_map ended_unpaid) (quiet-order 7 s request.id request.ask)
+    each : (s : OrderSums) (b : Body) → filter_map ended_unpaid (on ORDER_TO_CART (order_rows s b)) ≡ cons_option (failed_in b) []
+    each s (body.Asked request) = ap (filter_map ended_unpaid) (quiet-order ORDER_TO_CART tt s request.id request.ask)
     each s other = refl
 
 -- the checkout that is told that it was not paid
@@ -154,17 +146,17 @@ shipped_in other = None
 
 pub ships-paid : (steps : List Step) → IsRunOf Role.Shipment steps → filter_map shipped_in (made_on SHIPMENT_TO_ORDER steps) ≡ filter_map paid_id (taken_bodies steps)
 ships-paid =
-    made-gathered Role.Shipment (λ made. filter_map shipped_in (on 13 made)) paid_id (joining-gathered 13 shipped_in)
-    (λ before s follows. ap (λ made. filter_map shipped_in (on 13 made)) (follows.made ∙ answers-shipment before s.from s.body) ∙ each (shipment_sums before) s.body)
+    made-gathered Role.Shipment (λ made. filter_map shipped_in (on SHIPMENT_TO_ORDER made)) paid_id (joining-gathered SHIPMENT_TO_ORDER shipped_in)
+    (λ before s follows. ap (λ made. filter_map shipped_in (on SHIPMENT_TO_ORDER made)) (follows.made ∙ answers-shipment before s.from s.body) ∙ each (shipment_sums before) s.body)
   where
-    deliver : (id : RequestId) (items : List Item) (sellers : ℕ) → filter_map shipped_in (on 13 (deliver_rows id items sellers)) ≡ []
+    deliver : (id : RequestId) (items : List Item) (sellers : ℕ) → filter_map shipped_in (on SHIPMENT_TO_ORDER (deliver_rows id items sellers)) ≡ []
     deliver id [] sellers = refl
     deliver id (i ∷ items) sellers = refl
 
-    asked : (s : ShipmentSums) (id : RequestId) (a : Ask) → filter_map shipped_in (on 13 (shipment_asked s id a)) ≡ []
+    asked : (s : ShipmentSums) (id : RequestId) (a : Ask) → filter_map shipped_in (on SHIPMENT_TO_ORDER (shipment_asked s id a)) ≡ []
     asked s id ask.Deliver = deliver id (delivered_of s.waiting) (length (oldest_of s.waiting))
     asked s id other = refl
 
-    each : (s : ShipmentSums) (b : Body) → filter_map shipped_in (on 13 (shipment_rows s b)) ≡ cons_option (paid_id b) []
+    each : (s : ShipmentSums) (b : Body) → filter_map shipped_in (on SHIPMENT_TO_ORDER (shipment_rows s b)) ≡ cons_option (paid_id b) []
     each s (body.Asked request) = asked s request.id request.ask
     each s other = refl

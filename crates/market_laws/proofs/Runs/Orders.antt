@@ -19,13 +19,15 @@ use Rattle.market_events.specs.Services.{Follows, RunsFrom, IsRunOf, role_fits, 
 use Rattle.market_events.specs.Steps.{Step, Sending, taken_bodies, made_on}
 use Rattle.market_events.specs.Stocks.{reservation_in, confirms, fails, is_settled}
 use Rattle.market_events.specs.WellFormed.{total_of}
+use Rattle.market_events.specs.declared.links.Link.{Link}
+use Rattle.market_events.specs.declared.links.Link.TheVariants.{Service, Asked, Told}
 use Rattle.market_events.proofs.Values.Lists.{and_not, or_parts, or_true, not_true, count-none, sum_by_plus}
 use Rattle.market_events.proofs.Steps.Orders.{has_order-same, has_order-confirmed, order_total-same, order_total-confirmed, order_total-new}
 use Rattle.market_events.proofs.Runs.Orders.{answers-order, OrderRun-of}
 use Rattle.market_events.proofs.Values.Same.{same_id-true, same_id-self}
 use Rattle.market_events.proofs.Steps.Taken.{taken_bodies-push, is_settled-is, fits-parts, run_has}
 use Rattle.market_laws.specs.Runs.{Member, bodies_made, tells, holds_pieces}
-use Rattle.market_laws.proofs.Runs.Counts.{on, count_on, count_all, joining-on, adding-on, made-is-taken, same_made, taken_once, member-taken, member-either, IsHere, told-is-asked, one}
+use Rattle.market_laws.proofs.Runs.Counts.{on, count_on, count_all, joining-on, adding-on, made-is-taken, same_made, taken_once, member-taken, member-either, IsHere, told-is-asked, one, IsBetween}
 use Rattle.market_laws.proofs.Runs.Causes.{MadeOn, made_by}
 
 -- what holds of the answers holds of what a step makes
@@ -33,13 +35,15 @@ order_makes : (P : List Sending → Body → Type 0) → ((s : OrderSums) (b : B
 order_makes P holds before s follows = subst (λ made. P made s.body) (sym (follows.made ∙ answers-order before s.from s.body)) (holds (order_sums before) s.body)
 
 -- a request makes nothing on a service link
-quiet : (n : ℕ) (s : OrderSums) (id : RequestId) (a : Ask) → on n (order_asked s id a) ≡ []
-quiet n s id (ask.Order checkout) = by_status (s.status checkout)
+pub quiet-order : (link : Link) → IsBetween link → (s : OrderSums) (id : RequestId) (a : Ask) → on link (order_asked s id a) ≡ []
+quiet-order (Service n) between s id (ask.Order checkout) = by_status (s.status checkout)
   where
-    by_status : (st : Option OrderStatus) → on n (order_reply_rows id st (s.total checkout)) ≡ []
+    by_status : (st : Option OrderStatus) → on (Service n) (order_reply_rows id st (s.total checkout)) ≡ []
     by_status None = refl
     by_status (Some st) = refl
-quiet n s id other = refl
+quiet-order (Service n) between s id other = refl
+quiet-order (Asked lane service) never s id a = absurd never
+quiet-order (Told service lane) never s id a = absurd never
 
 -- orders tell as much as they were asked
 pub order_told-is : (steps : List Step) → IsRunOf Role.Order steps → (id : RequestId) → count_by (tells id) (bodies_made steps) ≡ count_by (asks id) (taken_bodies steps)
@@ -58,19 +62,19 @@ order_told-is steps run id = told-is-asked Role.Order id (order_makes (λ made b
     each s other here = refl
 
 -- the same goes to payments and to sellers
-pub invoices-6 : (steps : List Step) → IsRunOf Role.Order steps → made_on ORDER_TO_PAYMENT steps ≡ made_on ORDER_TO_SELLER steps
-invoices-6 steps run = same_made Role.Order (on 5) (on 6) (joining-on 5) (joining-on 6) (order_makes (λ made b. on 5 made ≡ on 6 made) each) steps run
+pub invoices-to-seller : (steps : List Step) → IsRunOf Role.Order steps → made_on ORDER_TO_PAYMENT steps ≡ made_on ORDER_TO_SELLER steps
+invoices-to-seller steps run = same_made Role.Order (on ORDER_TO_PAYMENT) (on ORDER_TO_SELLER) (joining-on ORDER_TO_PAYMENT) (joining-on ORDER_TO_SELLER) (order_makes (λ made b. on ORDER_TO_PAYMENT made ≡ on ORDER_TO_SELLER made) each) steps run
   where
-    each : (s : OrderSums) (b : Body) → on 5 (order_rows s b) ≡ on 6 (order_rows s b)
-    each s (body.Asked request) = quiet 5 s request.id request.ask ∙ sym (quiet 6 s request.id request.ask)
+    each : (s : OrderSums) (b : Body) → on ORDER_TO_PAYMENT (order_rows s b) ≡ on ORDER_TO_SELLER (order_rows s b)
+    each s (body.Asked request) = quiet-order ORDER_TO_PAYMENT tt s request.id request.ask ∙ sym (quiet-order ORDER_TO_SELLER tt s request.id request.ask)
     each s other = refl
 
 -- as much is invoiced as stock holds
 pub invoices-is-held : (steps : List Step) → IsRunOf Role.Order steps → (id : RequestId) → count_by (invoices id) (made_on ORDER_TO_PAYMENT steps) ≡ count_by (holds_pieces id) (taken_bodies steps)
-invoices-is-held steps run id = made-is-taken Role.Order (count_on 5 (invoices id)) (λ b. cond (holds_pieces id b) 1 0) (adding-on 5 (invoices id)) (order_makes (λ made b. count_on 5 (invoices id) made ≡ cond (holds_pieces id b) 1 0) each) steps run
+invoices-is-held steps run id = made-is-taken Role.Order (count_on ORDER_TO_PAYMENT (invoices id)) (λ b. cond (holds_pieces id b) 1 0) (adding-on ORDER_TO_PAYMENT (invoices id)) (order_makes (λ made b. count_on ORDER_TO_PAYMENT (invoices id) made ≡ cond (holds_pieces id b) 1 0) each) steps run
   where
-    each : (s : OrderSums) (b : Body) → count_on 5 (invoices id) (order_rows s b) ≡ cond (holds_pieces id b) 1 0
-    each s (body.Asked request) = ap (count_by (invoices id)) (quiet 5 s request.id request.ask)
+    each : (s : OrderSums) (b : Body) → count_on ORDER_TO_PAYMENT (invoices id) (order_rows s b) ≡ cond (holds_pieces id b) 1 0
+    each s (body.Asked request) = ap (count_by (invoices id)) (quiet-order ORDER_TO_PAYMENT tt s request.id request.ask)
     each s other = omega arith
 
 -- a checkout has an order, where stock said that it holds its pieces
@@ -98,11 +102,11 @@ invoices-once steps run id = omega (arith, invoices-is-held steps run id, held-o
 -- as much ends as failed and was shipped
 pub ends-is : (steps : List Step) → IsRunOf Role.Order steps → (id : RequestId) → count_by (ends id) (made_on ORDER_TO_CART steps) ≡ count_by (fails id) (taken_bodies steps) + count_by (ships id) (taken_bodies steps)
 ends-is steps run id =
-    made-is-taken Role.Order (count_on 7 (ends id)) (λ b. cond (fails id b) 1 0 + cond (ships id b) 1 0) (adding-on 7 (ends id)) (order_makes (λ made b. count_on 7 (ends id) made ≡ cond (fails id b) 1 0 + cond (ships id b) 1 0) each) steps run
+    made-is-taken Role.Order (count_on ORDER_TO_CART (ends id)) (λ b. cond (fails id b) 1 0 + cond (ships id b) 1 0) (adding-on ORDER_TO_CART (ends id)) (order_makes (λ made b. count_on ORDER_TO_CART (ends id) made ≡ cond (fails id b) 1 0 + cond (ships id b) 1 0) each) steps run
     ∙ sum_by_plus (λ b. cond (fails id b) 1 0) (λ b. cond (ships id b) 1 0) (taken_bodies steps)
   where
-    each : (s : OrderSums) (b : Body) → count_on 7 (ends id) (order_rows s b) ≡ cond (fails id b) 1 0 + cond (ships id b) 1 0
-    each s (body.Asked request) = ap (count_by (ends id)) (quiet 7 s request.id request.ask)
+    each : (s : OrderSums) (b : Body) → count_on ORDER_TO_CART (ends id) (order_rows s b) ≡ cond (fails id b) 1 0 + cond (ships id b) 1 0
+    each s (body.Asked request) = ap (count_by (ends id)) (quiet-order ORDER_TO_CART tt s request.id request.ask)
     each s other = omega arith
 
 -- a payment fails once at most
@@ -146,13 +150,13 @@ IsOrderOf total (body.Ended checkout (ending.Whole sum)) b = (b ≡ body.Shipped
 IsOrderOf total other b = ⊥
 
 -- to payments, and to the cart
-invoice_of : (s : OrderSums) (b made : Body) → on 5 (order_rows s b) ≡ made ∷ [] → IsOrderOf s.total made b
-invoice_of s (body.Asked request) made is = let none = quiet 5 s request.id request.ask in cc
+invoice_of : (s : OrderSums) (b made : Body) → on ORDER_TO_PAYMENT (order_rows s b) ≡ made ∷ [] → IsOrderOf s.total made b
+invoice_of s (body.Asked request) made is = let none = quiet-order ORDER_TO_PAYMENT tt s request.id request.ask in cc
 invoice_of s (body.StockConfirmed checkout customer lines) made is = subst (λ m. IsOrderOf s.total m (body.StockConfirmed checkout customer lines)) (one is) (refl, refl)
 invoice_of s other made is = cc
 
-end_of : (s : OrderSums) (b made : Body) → on 7 (order_rows s b) ≡ made ∷ [] → IsOrderOf s.total made b
-end_of s (body.Asked request) made is = let none = quiet 7 s request.id request.ask in cc
+end_of : (s : OrderSums) (b made : Body) → on ORDER_TO_CART (order_rows s b) ≡ made ∷ [] → IsOrderOf s.total made b
+end_of s (body.Asked request) made is = let none = quiet-order ORDER_TO_CART tt s request.id request.ask in cc
 end_of s (body.Failed checkout customer reason) made is = subst (λ m. IsOrderOf s.total m (body.Failed checkout customer reason)) (one is) (customer, refl)
 end_of s (body.Shipped checkout) made is = subst (λ m. IsOrderOf s.total m (body.Shipped checkout)) (one is) (refl, refl)
 end_of s other made is = cc
@@ -160,16 +164,16 @@ end_of s other made is = cc
 -- an invoice is for what stock holds, with its total
 pub invoice-held : (steps : List Step) → IsRunOf Role.Order steps → (checkout : RequestId) (customer : ℕ) (lines : List PricedLine) (total : ℕ) → Member (body.Invoice checkout customer lines total) (made_on ORDER_TO_PAYMENT steps) → Member (body.StockConfirmed checkout customer lines) (taken_bodies steps) × (total ≡ total_of lines)
 invoice-held steps run checkout customer lines total here =
-    let m = (made_by Role.Order 5 steps (body.Invoice checkout customer lines total) run here).1 in
-    let is = invoice_of (order_sums m.before) m.step.body (body.Invoice checkout customer lines total) (sym (ap (on 5) (m.follows.made ∙ answers-order m.before m.step.from m.step.body)) ∙ m.here) in
+    let m = (made_by Role.Order ORDER_TO_PAYMENT steps (body.Invoice checkout customer lines total) run here).1 in
+    let is = invoice_of (order_sums m.before) m.step.body (body.Invoice checkout customer lines total) (sym (ap (on ORDER_TO_PAYMENT) (m.follows.made ∙ answers-order m.before m.step.from m.step.body)) ∙ m.here) in
     (subst (λ b. Member b (taken_bodies steps)) is.0 (member-taken steps m.before m.step m.after m.is), is.1)
 
 -- what made an end
-ended_for : (steps : List Step) → IsRunOf Role.Order steps → (made : Body) → Member made (made_on ORDER_TO_CART steps) → (xs : List Body) × (m : MadeOn Role.Order 7 steps xs made) × IsOrderOf (order_total m.before) made m.step.body
+ended_for : (steps : List Step) → IsRunOf Role.Order steps → (made : Body) → Member made (made_on ORDER_TO_CART steps) → (xs : List Body) × (m : MadeOn Role.Order ORDER_TO_CART steps xs made) × IsOrderOf (order_total m.before) made m.step.body
 ended_for steps run made here =
-    let found = made_by Role.Order 7 steps made run here in
+    let found = made_by Role.Order ORDER_TO_CART steps made run here in
     let m = found.1 in
-    (found.0, m, end_of (order_sums m.before) m.step.body made (sym (ap (on 7) (m.follows.made ∙ answers-order m.before m.step.from m.step.body)) ∙ m.here))
+    (found.0, m, end_of (order_sums m.before) m.step.body made (sym (ap (on ORDER_TO_CART) (m.follows.made ∙ answers-order m.before m.step.from m.step.body)) ∙ m.here))
 
 -- a checkout that ends undone failed by this rule
 pub undone-failed : (steps : List Step) → IsRunOf Role.Order steps → (checkout : RequestId) (rule : PayRule) → Member (body.Ended checkout (ending.Undone rule)) (made_on ORDER_TO_CART steps) → (customer : ℕ) × Member (body.Failed checkout customer rule) (taken_bodies steps)

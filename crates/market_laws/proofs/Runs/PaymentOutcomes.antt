@@ -8,10 +8,8 @@ use Rattle.market_events.specs.declared.bodies.Body.{Body}
 use Rattle.market_events.specs.declared.bodies.Body.TheVariants as body
 use Rattle.market_events.specs.declared.bodies.PayRule.{PayRule}
 use Rattle.market_events.specs.declared.links.TheConstants.{PAYMENT_TO_STOCK}
-use Rattle.market_events.specs.declared.requests.Ask.{Ask}
-use Rattle.market_events.specs.declared.requests.Ask.TheVariants as ask
 use Rattle.market_events.specs.Orders.{is_of}
-use Rattle.market_events.specs.Payments.{PaymentSums, payment_asked, payment_rows}
+use Rattle.market_events.specs.Payments.{PaymentSums, payment_rows}
 use Rattle.market_events.specs.declared.roles.Role.{Role}
 use Rattle.market_events.specs.Services.{Follows, IsRunOf}
 use Rattle.market_events.specs.Steps.{Step, taken_bodies, made_on}
@@ -21,7 +19,7 @@ use Rattle.market_events.proofs.Steps.Taken.{taken_bodies-push, made_on-push, ru
 use Rattle.market_history.specs.Book.{paid_in}
 use Rattle.market_laws.specs.Runs.{Member}
 use Rattle.market_laws.proofs.Runs.Counts.{on}
-use Rattle.market_laws.proofs.Runs.Payments.{payment_makes, invoice_cases}
+use Rattle.market_laws.proofs.Runs.Payments.{payment_makes, invoice_cases, quiet-payment}
 
 -- each of these was paid or was not, in this order
 pub data AreSettled : List Reservation → List Body → Type 0 where
@@ -38,22 +36,18 @@ settled-append (failed r rule first) more = failed r rule (settled-append first 
 pub payments-settled : (steps : List Step) → IsRunOf Role.Payment steps → AreSettled (filter_map invoice_in (taken_bodies steps)) (made_on PAYMENT_TO_STOCK steps)
 payments-settled steps run = run_has Role.Payment (λ steps. AreSettled (filter_map invoice_in (taken_bodies steps)) (made_on PAYMENT_TO_STOCK steps)) keeps none steps run
   where
-    quiet : (s : PaymentSums) (id : RequestId) (a : Ask) → on 8 (payment_asked s id a) ≡ []
-    quiet s id (ask.Card customer limit) = refl
-    quiet s id other = refl
-
-    each : (s : PaymentSums) (b : Body) → AreSettled (filter_map invoice_in (b ∷ [])) (on 8 (payment_rows s b))
-    each s (body.Asked request) = subst (λ bs. AreSettled [] bs) (sym (quiet s request.id request.ask)) none
+    each : (s : PaymentSums) (b : Body) → AreSettled (filter_map invoice_in (b ∷ [])) (on PAYMENT_TO_STOCK (payment_rows s b))
+    each s (body.Asked request) = subst (λ bs. AreSettled [] bs) (sym (quiet-payment PAYMENT_TO_STOCK tt s request.id request.ask)) none
     each s (body.Invoice checkout customer lines total) =
         let r : Reservation = record { checkout = checkout; customer = customer; lines = lines } in
-        invoice_cases (λ made. AreSettled (r ∷ []) (on 8 made)) s checkout customer lines total (paid r total none) (λ rule. failed r rule none)
+        invoice_cases (λ made. AreSettled (r ∷ []) (on PAYMENT_TO_STOCK made)) s checkout customer lines total (paid r total none) (λ rule. failed r rule none)
     each s other = none
 
     keeps : (before : List Step) (s : Step) → Follows Role.Payment before s → AreSettled (filter_map invoice_in (taken_bodies before)) (made_on PAYMENT_TO_STOCK before) → AreSettled (filter_map invoice_in (taken_bodies (before ++ s ∷ []))) (made_on PAYMENT_TO_STOCK (before ++ s ∷ []))
     keeps before s follows rest =
         subst (λ rs. AreSettled rs (made_on PAYMENT_TO_STOCK (before ++ s ∷ []))) (sym (ap (filter_map invoice_in) (taken_bodies-push before s) ∙ filter_map-append invoice_in (taken_bodies before) (s.body ∷ [])))
         (subst (λ bs. AreSettled (filter_map invoice_in (taken_bodies before) ++ filter_map invoice_in (s.body ∷ [])) bs) (sym (made_on-push PAYMENT_TO_STOCK before s))
-        (settled-append rest (payment_makes (λ made b. AreSettled (filter_map invoice_in (b ∷ [])) (on 8 made)) each before s follows)))
+        (settled-append rest (payment_makes (λ made b. AreSettled (filter_map invoice_in (b ∷ [])) (on PAYMENT_TO_STOCK made)) each before s follows)))
 
 -- the checkout that was not paid
 abbrev pub failed_in : Body → Option RequestId

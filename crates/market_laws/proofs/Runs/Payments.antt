@@ -19,12 +19,13 @@ use Rattle.market_events.specs.declared.roles.Role.{Role}
 use Rattle.market_events.specs.Services.{Follows, IsRunOf, role_fits, asks, invoices}
 use Rattle.market_events.specs.Steps.{Step, Sending, taken_bodies, made_on}
 use Rattle.market_events.specs.Stocks.{settles}
-use Rattle.market_events.specs.declared.links.Link.TheVariants.{Service}
+use Rattle.market_events.specs.declared.links.Link.TheVariants.{Service, Asked, Told}
+use Rattle.market_events.specs.declared.links.Link.{Link}
 use Rattle.market_events.proofs.Values.Lists.{not_true}
 use Rattle.market_events.proofs.Steps.Payments.{answers-payment}
 use Rattle.market_events.proofs.Values.Same.{same_id-true}
 use Rattle.market_laws.specs.Runs.{Member, bodies_made, tells, is_payment}
-use Rattle.market_laws.proofs.Runs.Counts.{on, count_on, count_all, joining-on, joining-kind, adding-on, made-is-taken, same_made, taken_once, member-taken, IsHere, told-is-asked, one}
+use Rattle.market_laws.proofs.Runs.Counts.{on, count_on, count_all, joining-on, joining-kind, adding-on, made-is-taken, same_made, taken_once, member-taken, IsHere, told-is-asked, one, IsBetween}
 use Rattle.market_laws.proofs.Runs.Causes.{made_by}
 
 -- what holds of the answers holds of what a step makes
@@ -45,45 +46,47 @@ invoice_cases P s checkout customer lines total paid unpaid = by_limit (s.limit 
     by_limit (Some limit) = by_test (nat_le (s.spent customer + total) limit)
 
 -- a reply goes on no service link
-quiet : (n : ℕ) (s : PaymentSums) (id : RequestId) (a : Ask) → on n (payment_asked s id a) ≡ []
-quiet n s id (ask.Card customer limit) = refl
-quiet n s id other = refl
+pub quiet-payment : (link : Link) → IsBetween link → (s : PaymentSums) (id : RequestId) (a : Ask) → on link (payment_asked s id a) ≡ []
+quiet-payment (Service n) between s id (ask.Card customer limit) = refl
+quiet-payment (Service n) between s id other = refl
+quiet-payment (Asked lane service) never s id a = absurd never
+quiet-payment (Told service lane) never s id a = absurd never
 
 -- the same goes to stock as on this link, where it does for a payment and for none
-alike : (n : ℕ) → ((b : Body) → on n (confirmed_rows b) ≡ b ∷ []) → ((b : Body) → on n (failed_rows b) ≡ b ∷ []) → (steps : List Step) → IsRunOf Role.Payment steps → made_on PAYMENT_TO_STOCK steps ≡ made_on (Service n) steps
-alike n paid unpaid steps run = same_made Role.Payment (on 8) (on n) (joining-on 8) (joining-on n) (payment_makes (λ made b. on 8 made ≡ on n made) each) steps run
+alike : (link : Link) → IsBetween link → ((b : Body) → on link (confirmed_rows b) ≡ b ∷ []) → ((b : Body) → on link (failed_rows b) ≡ b ∷ []) → (steps : List Step) → IsRunOf Role.Payment steps → made_on PAYMENT_TO_STOCK steps ≡ made_on link steps
+alike link between paid unpaid steps run = same_made Role.Payment (on PAYMENT_TO_STOCK) (on link) (joining-on PAYMENT_TO_STOCK) (joining-on link) (payment_makes (λ made b. on PAYMENT_TO_STOCK made ≡ on link made) each) steps run
   where
-    each : (s : PaymentSums) (b : Body) → on 8 (payment_rows s b) ≡ on n (payment_rows s b)
-    each s (body.Asked request) = quiet 8 s request.id request.ask ∙ sym (quiet n s request.id request.ask)
-    each s (body.Invoice checkout customer lines total) = invoice_cases (λ made. on 8 made ≡ on n made) s checkout customer lines total (sym (paid (body.Confirmed checkout customer lines total))) (λ rule. sym (unpaid (body.Failed checkout customer rule)))
+    each : (s : PaymentSums) (b : Body) → on PAYMENT_TO_STOCK (payment_rows s b) ≡ on link (payment_rows s b)
+    each s (body.Asked request) = quiet-payment PAYMENT_TO_STOCK tt s request.id request.ask ∙ sym (quiet-payment link between s request.id request.ask)
+    each s (body.Invoice checkout customer lines total) = invoice_cases (λ made. on PAYMENT_TO_STOCK made ≡ on link made) s checkout customer lines total (sym (paid (body.Confirmed checkout customer lines total))) (λ rule. sym (unpaid (body.Failed checkout customer rule)))
     each s other = refl
 
 -- the same goes to stock, orders, customers and sellers
-pub payments-9 : (steps : List Step) → IsRunOf Role.Payment steps → made_on PAYMENT_TO_STOCK steps ≡ made_on PAYMENT_TO_ORDER steps
-payments-9 = alike 9 (λ b. refl) (λ b. refl)
+pub payments-to-order : (steps : List Step) → IsRunOf Role.Payment steps → made_on PAYMENT_TO_STOCK steps ≡ made_on PAYMENT_TO_ORDER steps
+payments-to-order = alike PAYMENT_TO_ORDER tt (λ b. refl) (λ b. refl)
 
-pub payments-11 : (steps : List Step) → IsRunOf Role.Payment steps → made_on PAYMENT_TO_STOCK steps ≡ made_on PAYMENT_TO_CUSTOMER steps
-payments-11 = alike 11 (λ b. refl) (λ b. refl)
+pub payments-to-customer : (steps : List Step) → IsRunOf Role.Payment steps → made_on PAYMENT_TO_STOCK steps ≡ made_on PAYMENT_TO_CUSTOMER steps
+payments-to-customer = alike PAYMENT_TO_CUSTOMER tt (λ b. refl) (λ b. refl)
 
-pub payments-12 : (steps : List Step) → IsRunOf Role.Payment steps → made_on PAYMENT_TO_STOCK steps ≡ made_on PAYMENT_TO_SELLER steps
-payments-12 = alike 12 (λ b. refl) (λ b. refl)
+pub payments-to-seller : (steps : List Step) → IsRunOf Role.Payment steps → made_on PAYMENT_TO_STOCK steps ≡ made_on PAYMENT_TO_SELLER steps
+payments-to-seller = alike PAYMENT_TO_SELLER tt (λ b. refl) (λ b. refl)
 
 -- the payments that were made go to shipments
-pub payments-10 : (steps : List Step) → IsRunOf Role.Payment steps → made_on PAYMENT_TO_SHIPMENT steps ≡ filter is_payment (made_on PAYMENT_TO_STOCK steps)
-payments-10 steps run = same_made Role.Payment (on 10) (λ made. filter is_payment (on 8 made)) (joining-on 10) (joining-kind 8 is_payment) (payment_makes (λ made b. on 10 made ≡ filter is_payment (on 8 made)) each) steps run
+pub payments-to-shipment : (steps : List Step) → IsRunOf Role.Payment steps → made_on PAYMENT_TO_SHIPMENT steps ≡ filter is_payment (made_on PAYMENT_TO_STOCK steps)
+payments-to-shipment steps run = same_made Role.Payment (on PAYMENT_TO_SHIPMENT) (λ made. filter is_payment (on PAYMENT_TO_STOCK made)) (joining-on PAYMENT_TO_SHIPMENT) (joining-kind PAYMENT_TO_STOCK is_payment) (payment_makes (λ made b. on PAYMENT_TO_SHIPMENT made ≡ filter is_payment (on PAYMENT_TO_STOCK made)) each) steps run
   where
-    each : (s : PaymentSums) (b : Body) → on 10 (payment_rows s b) ≡ filter is_payment (on 8 (payment_rows s b))
-    each s (body.Asked request) = quiet 10 s request.id request.ask ∙ sym (ap (filter is_payment) (quiet 8 s request.id request.ask))
-    each s (body.Invoice checkout customer lines total) = invoice_cases (λ made. on 10 made ≡ filter is_payment (on 8 made)) s checkout customer lines total refl (λ rule. refl)
+    each : (s : PaymentSums) (b : Body) → on PAYMENT_TO_SHIPMENT (payment_rows s b) ≡ filter is_payment (on PAYMENT_TO_STOCK (payment_rows s b))
+    each s (body.Asked request) = quiet-payment PAYMENT_TO_SHIPMENT tt s request.id request.ask ∙ sym (ap (filter is_payment) (quiet-payment PAYMENT_TO_STOCK tt s request.id request.ask))
+    each s (body.Invoice checkout customer lines total) = invoice_cases (λ made. on PAYMENT_TO_SHIPMENT made ≡ filter is_payment (on PAYMENT_TO_STOCK made)) s checkout customer lines total refl (λ rule. refl)
     each s other = refl
 
 -- as much is settled as invoiced
 pub settles-is-invoices : (steps : List Step) → IsRunOf Role.Payment steps → (id : RequestId) → count_by (settles id) (made_on PAYMENT_TO_STOCK steps) ≡ count_by (invoices id) (taken_bodies steps)
-settles-is-invoices steps run id = made-is-taken Role.Payment (count_on 8 (settles id)) (λ b. cond (invoices id b) 1 0) (adding-on 8 (settles id)) (payment_makes (λ made b. count_on 8 (settles id) made ≡ cond (invoices id b) 1 0) each) steps run
+settles-is-invoices steps run id = made-is-taken Role.Payment (count_on PAYMENT_TO_STOCK (settles id)) (λ b. cond (invoices id b) 1 0) (adding-on PAYMENT_TO_STOCK (settles id)) (payment_makes (λ made b. count_on PAYMENT_TO_STOCK (settles id) made ≡ cond (invoices id b) 1 0) each) steps run
   where
-    each : (s : PaymentSums) (b : Body) → count_on 8 (settles id) (payment_rows s b) ≡ cond (invoices id b) 1 0
-    each s (body.Asked request) = ap (count_by (settles id)) (quiet 8 s request.id request.ask)
-    each s (body.Invoice checkout customer lines total) = invoice_cases (λ made. count_on 8 (settles id) made ≡ cond (same_id checkout id) 1 0) s checkout customer lines total (omega arith) (λ rule. omega arith)
+    each : (s : PaymentSums) (b : Body) → count_on PAYMENT_TO_STOCK (settles id) (payment_rows s b) ≡ cond (invoices id b) 1 0
+    each s (body.Asked request) = ap (count_by (settles id)) (quiet-payment PAYMENT_TO_STOCK tt s request.id request.ask)
+    each s (body.Invoice checkout customer lines total) = invoice_cases (λ made. count_on PAYMENT_TO_STOCK (settles id) made ≡ cond (same_id checkout id) 1 0) s checkout customer lines total (omega arith) (λ rule. omega arith)
     each s other = refl
 
 -- payments tell as much as they were asked
@@ -114,10 +117,10 @@ IsSettledBy (body.Failed checkout customer rule) b = (lines : List PricedLine) �
 IsSettledBy other b = ⊥
 
 -- what is made to stock settles an invoice
-settled_by : (s : PaymentSums) (b made : Body) → on 8 (payment_rows s b) ≡ made ∷ [] → IsSettledBy made b
-settled_by s (body.Asked request) made is = let none = quiet 8 s request.id request.ask in cc
+settled_by : (s : PaymentSums) (b made : Body) → on PAYMENT_TO_STOCK (payment_rows s b) ≡ made ∷ [] → IsSettledBy made b
+settled_by s (body.Asked request) made is = let none = quiet-payment PAYMENT_TO_STOCK tt s request.id request.ask in cc
 settled_by s (body.Invoice checkout customer lines total) made is =
-    invoice_cases (λ rows. on 8 rows ≡ made ∷ [] → IsSettledBy made (body.Invoice checkout customer lines total)) s checkout customer lines total
+    invoice_cases (λ rows. on PAYMENT_TO_STOCK rows ≡ made ∷ [] → IsSettledBy made (body.Invoice checkout customer lines total)) s checkout customer lines total
     (λ paid. subst (λ m. IsSettledBy m (body.Invoice checkout customer lines total)) (one paid) refl)
     (λ rule unpaid. subst (λ m. IsSettledBy m (body.Invoice checkout customer lines total)) (one unpaid) (lines, total, refl)) is
 settled_by s other made is = cc
@@ -125,8 +128,8 @@ settled_by s other made is = cc
 -- the step that made it to stock took the invoice
 taken_for : (steps : List Step) (made : Body) → IsRunOf Role.Payment steps → Member made (made_on PAYMENT_TO_STOCK steps) → (b : Body) × IsSettledBy made b × Member b (taken_bodies steps)
 taken_for steps made run here =
-    let m = (made_by Role.Payment 8 steps made run here).1 in
-    (m.step.body, settled_by (payment_sums m.before) m.step.body made (sym (ap (on 8) (m.follows.made ∙ answers-payment m.before m.step.from m.step.body)) ∙ m.here), member-taken steps m.before m.step m.after m.is)
+    let m = (made_by Role.Payment PAYMENT_TO_STOCK steps made run here).1 in
+    (m.step.body, settled_by (payment_sums m.before) m.step.body made (sym (ap (on PAYMENT_TO_STOCK) (m.follows.made ∙ answers-payment m.before m.step.from m.step.body)) ∙ m.here), member-taken steps m.before m.step m.after m.is)
 
 -- a payment is of an invoice that was taken
 pub confirmed-invoice : (steps : List Step) → IsRunOf Role.Payment steps → (checkout : RequestId) (customer : ℕ) (lines : List PricedLine) (total : ℕ) → Member (body.Confirmed checkout customer lines total) (made_on PAYMENT_TO_STOCK steps) → Member (body.Invoice checkout customer lines total) (taken_bodies steps)

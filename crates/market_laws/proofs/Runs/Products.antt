@@ -65,11 +65,11 @@ product_told-is steps run id = told-is-asked Role.Product id (product_makes (λ 
     each s other here = refl
 
 -- the same goes to the cart and to stock
-pub changes-0 : (steps : List Step) → IsRunOf Role.Product steps → made_on PRODUCT_TO_CART steps ≡ made_on PRODUCT_TO_STOCK steps
-changes-0 steps run = same_made Role.Product (on 0) (on 1) (joining-on 0) (joining-on 1) (product_makes (λ made b. on 0 made ≡ on 1 made) each) steps run
+pub changes-to-cart : (steps : List Step) → IsRunOf Role.Product steps → made_on PRODUCT_TO_CART steps ≡ made_on PRODUCT_TO_STOCK steps
+changes-to-cart steps run = same_made Role.Product (on PRODUCT_TO_CART) (on PRODUCT_TO_STOCK) (joining-on PRODUCT_TO_CART) (joining-on PRODUCT_TO_STOCK) (product_makes (λ made b. on PRODUCT_TO_CART made ≡ on PRODUCT_TO_STOCK made) each) steps run
   where
-    each : (s : ProductSums) (b : Body) → on 0 (product_rows s b) ≡ on 1 (product_rows s b)
-    each s (body.Asked request) = asked_cases (λ made. on 0 made ≡ on 1 made) s request.id request.ask (λ elsewhere. refl) (λ r. refl) (λ key c r due. refl)
+    each : (s : ProductSums) (b : Body) → on PRODUCT_TO_CART (product_rows s b) ≡ on PRODUCT_TO_STOCK (product_rows s b)
+    each s (body.Asked request) = asked_cases (λ made. on PRODUCT_TO_CART made ≡ on PRODUCT_TO_STOCK made) s request.id request.ask (λ elsewhere. refl) (λ r. refl) (λ key c r due. refl)
     each s other = refl
 
 -- the body is a change with the next version that is due by what is shown
@@ -78,9 +78,9 @@ IsNext s (body.Changed key version c) = (version ≡ s.version key + 1) × (chan
 IsNext s other = ⊥
 
 -- what is made to stock is one
-next_made : (s : ProductSums) (b made : Body) → on 1 (product_rows s b) ≡ made ∷ [] → IsNext s made
+next_made : (s : ProductSums) (b made : Body) → on PRODUCT_TO_STOCK (product_rows s b) ≡ made ∷ [] → IsNext s made
 next_made s (body.Asked request) made is =
-    asked_cases (λ rows. on 1 rows ≡ made ∷ [] → IsNext s made) s request.id request.ask (λ elsewhere none. cc) (λ r none. cc) (λ key c r due is. subst (λ m. IsNext s m) (one is) (refl, due)) is
+    asked_cases (λ rows. on PRODUCT_TO_STOCK rows ≡ made ∷ [] → IsNext s made) s request.id request.ask (λ elsewhere none. cc) (λ r none. cc) (λ key c r due is. subst (λ m. IsNext s m) (one is) (refl, due)) is
 next_made s other made is = cc
 
 -- a change that is due with the next version fits
@@ -90,7 +90,7 @@ next_fits look version n c next same due = and_from (n == 1 + look_version look)
 -- each change fits those that were made before it
 pub change-fits : (steps : List Step) → IsRunOf Role.Product steps → (xs ys : List Body) (key : ProductKey) (version : ℕ) (c : Change) → made_on PRODUCT_TO_STOCK steps ≡ xs ++ body.Changed key version c ∷ ys → change_fits (copy_of (filter_map change_in xs) key) version c ≡ true
 change-fits steps run xs ys key version c is =
-    let m = made_split Role.Product 1 steps xs ys (body.Changed key version c) run is in
-    let next = next_made (product_sums m.before) m.step.body (body.Changed key version c) (sym (ap (on 1) (m.follows.made ∙ answers-product m.before m.step.from m.step.body)) ∙ m.here) in
+    let m = made_split Role.Product PRODUCT_TO_STOCK steps xs ys (body.Changed key version c) run is in
+    let next = next_made (product_sums m.before) m.step.body (body.Changed key version c) (sym (ap (on PRODUCT_TO_STOCK) (m.follows.made ∙ answers-product m.before m.step.from m.step.body)) ∙ m.here) in
     subst (λ bs. change_fits (copy_of (filter_map change_in bs) key) version c ≡ true) m.earlier
     (next_fits (copy_of (changes_made m.before) key) (version_of (changes_made m.before) key) version c next.0 (version_of-look m.before m.run key) next.1)

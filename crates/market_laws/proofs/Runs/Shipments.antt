@@ -55,27 +55,27 @@ shipment_told-is steps run id = told-is-asked Role.Shipment id (shipment_makes (
     each s other here = refl
 
 -- the same goes to orders and to sellers
-pub shipments-14 : (steps : List Step) → IsRunOf Role.Shipment steps → made_on SHIPMENT_TO_ORDER steps ≡ made_on SHIPMENT_TO_SELLER steps
-shipments-14 steps run = same_made Role.Shipment (on 13) (on 14) (joining-on 13) (joining-on 14) (shipment_makes (λ made b. on 13 made ≡ on 14 made) each) steps run
+pub shipments-to-seller : (steps : List Step) → IsRunOf Role.Shipment steps → made_on SHIPMENT_TO_ORDER steps ≡ made_on SHIPMENT_TO_SELLER steps
+shipments-to-seller steps run = same_made Role.Shipment (on SHIPMENT_TO_ORDER) (on SHIPMENT_TO_SELLER) (joining-on SHIPMENT_TO_ORDER) (joining-on SHIPMENT_TO_SELLER) (shipment_makes (λ made b. on SHIPMENT_TO_ORDER made ≡ on SHIPMENT_TO_SELLER made) each) steps run
   where
-    each : (s : ShipmentSums) (b : Body) → on 13 (shipment_rows s b) ≡ on 14 (shipment_rows s b)
-    each s (body.Asked request) = asked_cases (λ made. on 13 made ≡ on 14 made) s request.id request.ask (λ elsewhere. refl) (λ r. refl) (λ items sellers due. refl)
+    each : (s : ShipmentSums) (b : Body) → on SHIPMENT_TO_ORDER (shipment_rows s b) ≡ on SHIPMENT_TO_SELLER (shipment_rows s b)
+    each s (body.Asked request) = asked_cases (λ made. on SHIPMENT_TO_ORDER made ≡ on SHIPMENT_TO_SELLER made) s request.id request.ask (λ elsewhere. refl) (λ r. refl) (λ items sellers due. refl)
     each s other = refl
 
 -- the deliveries go to customers
-pub deliveries-15 : (steps : List Step) → IsRunOf Role.Shipment steps → made_on SHIPMENT_TO_CUSTOMER steps ≡ filter is_delivery (made_on SHIPMENT_TO_ORDER steps)
-deliveries-15 steps run = same_made Role.Shipment (on 15) (λ made. filter is_delivery (on 13 made)) (joining-on 15) (joining-kind 13 is_delivery) (shipment_makes (λ made b. on 15 made ≡ filter is_delivery (on 13 made)) each) steps run
+pub deliveries-to-customer : (steps : List Step) → IsRunOf Role.Shipment steps → made_on SHIPMENT_TO_CUSTOMER steps ≡ filter is_delivery (made_on SHIPMENT_TO_ORDER steps)
+deliveries-to-customer steps run = same_made Role.Shipment (on SHIPMENT_TO_CUSTOMER) (λ made. filter is_delivery (on SHIPMENT_TO_ORDER made)) (joining-on SHIPMENT_TO_CUSTOMER) (joining-kind SHIPMENT_TO_ORDER is_delivery) (shipment_makes (λ made b. on SHIPMENT_TO_CUSTOMER made ≡ filter is_delivery (on SHIPMENT_TO_ORDER made)) each) steps run
   where
-    each : (s : ShipmentSums) (b : Body) → on 15 (shipment_rows s b) ≡ filter is_delivery (on 13 (shipment_rows s b))
-    each s (body.Asked request) = asked_cases (λ made. on 15 made ≡ filter is_delivery (on 13 made)) s request.id request.ask (λ elsewhere. refl) (λ r. refl) (λ items sellers due. refl)
+    each : (s : ShipmentSums) (b : Body) → on SHIPMENT_TO_CUSTOMER (shipment_rows s b) ≡ filter is_delivery (on SHIPMENT_TO_ORDER (shipment_rows s b))
+    each s (body.Asked request) = asked_cases (λ made. on SHIPMENT_TO_CUSTOMER made ≡ filter is_delivery (on SHIPMENT_TO_ORDER made)) s request.id request.ask (λ elsewhere. refl) (λ r. refl) (λ items sellers due. refl)
     each s other = refl
 
 -- as much is shipped as is paid
 pub shipped-is : (steps : List Step) → IsRunOf Role.Shipment steps → (id : RequestId) → count_by (ships id) (made_on SHIPMENT_TO_ORDER steps) ≡ count_by (confirms id) (taken_bodies steps)
-shipped-is steps run id = made-is-taken Role.Shipment (count_on 13 (ships id)) (λ b. cond (confirms id b) 1 0) (adding-on 13 (ships id)) (shipment_makes (λ made b. count_on 13 (ships id) made ≡ cond (confirms id b) 1 0) each) steps run
+shipped-is steps run id = made-is-taken Role.Shipment (count_on SHIPMENT_TO_ORDER (ships id)) (λ b. cond (confirms id b) 1 0) (adding-on SHIPMENT_TO_ORDER (ships id)) (shipment_makes (λ made b. count_on SHIPMENT_TO_ORDER (ships id) made ≡ cond (confirms id b) 1 0) each) steps run
   where
-    each : (s : ShipmentSums) (b : Body) → count_on 13 (ships id) (shipment_rows s b) ≡ cond (confirms id b) 1 0
-    each s (body.Asked request) = asked_cases (λ made. count_on 13 (ships id) made ≡ 0) s request.id request.ask (λ elsewhere. refl) (λ r. refl) (λ items sellers due. refl)
+    each : (s : ShipmentSums) (b : Body) → count_on SHIPMENT_TO_ORDER (ships id) (shipment_rows s b) ≡ cond (confirms id b) 1 0
+    each s (body.Asked request) = asked_cases (λ made. count_on SHIPMENT_TO_ORDER (ships id) made ≡ 0) s request.id request.ask (λ elsewhere. refl) (λ r. refl) (λ items sellers due. refl)
     each s (body.Confirmed checkout customer lines total) = omega arith
     each s other = refl
 
@@ -93,20 +93,20 @@ IsShipping waiting (body.Shipped checkout) b = (customer : ℕ) × (lines : List
 IsShipping waiting (body.Delivered items) b = items ≡ delivered_of waiting
 IsShipping waiting other b = ⊥
 
-shipping : (s : ShipmentSums) (b made : Body) → on 13 (shipment_rows s b) ≡ made ∷ [] → IsShipping s.waiting made b
+shipping : (s : ShipmentSums) (b made : Body) → on SHIPMENT_TO_ORDER (shipment_rows s b) ≡ made ∷ [] → IsShipping s.waiting made b
 shipping s (body.Asked request) made is =
-    asked_cases (λ rows. on 13 rows ≡ made ∷ [] → IsShipping s.waiting made (body.Asked request)) s request.id request.ask (λ elsewhere none. cc) (λ r none. cc) (λ items sellers due is. subst (λ m. IsShipping s.waiting m (body.Asked request)) (one is) due) is
+    asked_cases (λ rows. on SHIPMENT_TO_ORDER rows ≡ made ∷ [] → IsShipping s.waiting made (body.Asked request)) s request.id request.ask (λ elsewhere none. cc) (λ r none. cc) (λ items sellers due is. subst (λ m. IsShipping s.waiting m (body.Asked request)) (one is) due) is
 shipping s (body.Confirmed checkout customer lines total) made is = subst (λ m. IsShipping s.waiting m (body.Confirmed checkout customer lines total)) (one is) (customer, lines, total, refl)
 shipping s other made is = cc
 
 -- at the step that made it
-shipping-at : (steps : List Step) (xs : List Body) (made : Body) (m : MadeOn Role.Shipment 13 steps xs made) → IsShipping (open_packages m.before) made m.step.body
-shipping-at steps xs made m = shipping (shipment_sums m.before) m.step.body made (sym (ap (on 13) (m.follows.made ∙ answers-shipment m.before m.step.from m.step.body)) ∙ m.here)
+shipping-at : (steps : List Step) (xs : List Body) (made : Body) (m : MadeOn Role.Shipment SHIPMENT_TO_ORDER steps xs made) → IsShipping (open_packages m.before) made m.step.body
+shipping-at steps xs made m = shipping (shipment_sums m.before) m.step.body made (sym (ap (on SHIPMENT_TO_ORDER) (m.follows.made ∙ answers-shipment m.before m.step.from m.step.body)) ∙ m.here)
 
 -- a checkout that is shipped was paid
 pub shipped-paid : (steps : List Step) → IsRunOf Role.Shipment steps → (checkout : RequestId) → Member (body.Shipped checkout) (made_on SHIPMENT_TO_ORDER steps) → (customer : ℕ) × (lines : List PricedLine) × (total : ℕ) × Member (body.Confirmed checkout customer lines total) (taken_bodies steps)
 shipped-paid steps run checkout here =
-    let found = made_by Role.Shipment 13 steps (body.Shipped checkout) run here in
+    let found = made_by Role.Shipment SHIPMENT_TO_ORDER steps (body.Shipped checkout) run here in
     let m = found.1 in
     let is = shipping-at steps found.0 (body.Shipped checkout) m in
     (is.0, is.1, is.2, subst (λ b. Member b (taken_bodies steps)) is.3 (member-taken steps m.before m.step m.after m.is))
@@ -115,8 +115,8 @@ shipped-paid steps run checkout here =
 pub paid-shipped : (steps : List Step) → IsRunOf Role.Shipment steps → (checkout : RequestId) (customer : ℕ) (lines : List PricedLine) (total : ℕ) → Member (body.Confirmed checkout customer lines total) (taken_bodies steps) → Member (body.Shipped checkout) (made_on SHIPMENT_TO_ORDER steps)
 paid-shipped steps run checkout customer lines total = run_has Role.Shipment (λ steps. Member (body.Confirmed checkout customer lines total) (taken_bodies steps) → Member (body.Shipped checkout) (made_on SHIPMENT_TO_ORDER steps)) keeps (λ here. absurd here) steps run
   where
-    last : (before : List Step) (s : Step) → Follows Role.Shipment before s → body.Confirmed checkout customer lines total ≡ s.body → on 13 s.made ≡ body.Shipped checkout ∷ []
-    last before s follows is = ap (on 13) (follows.made ∙ answers-shipment before s.from s.body) ∙ ap (λ b. on 13 (shipment_rows (shipment_sums before) b)) (sym is)
+    last : (before : List Step) (s : Step) → Follows Role.Shipment before s → body.Confirmed checkout customer lines total ≡ s.body → on SHIPMENT_TO_ORDER s.made ≡ body.Shipped checkout ∷ []
+    last before s follows is = ap (on SHIPMENT_TO_ORDER) (follows.made ∙ answers-shipment before s.from s.body) ∙ ap (λ b. on SHIPMENT_TO_ORDER (shipment_rows (shipment_sums before) b)) (sym is)
 
     keeps : (before : List Step) (s : Step) → Follows Role.Shipment before s → (Member (body.Confirmed checkout customer lines total) (taken_bodies before) → Member (body.Shipped checkout) (made_on SHIPMENT_TO_ORDER before))
         → Member (body.Confirmed checkout customer lines total) (taken_bodies (before ++ s ∷ [])) → Member (body.Shipped checkout) (made_on SHIPMENT_TO_ORDER (before ++ s ∷ []))
@@ -124,9 +124,9 @@ paid-shipped steps run checkout customer lines total = run_has Role.Shipment (λ
         subst (λ bs. Member (body.Shipped checkout) bs) (sym (made_on-push SHIPMENT_TO_ORDER before s))
         (either (member-either (body.Confirmed checkout customer lines total) (taken_bodies before) (s.body ∷ []) (subst (λ bs. Member (body.Confirmed checkout customer lines total) bs) (taken_bodies-push before s) here)))
       where
-        either : Member (body.Confirmed checkout customer lines total) (taken_bodies before) ⊎ Member (body.Confirmed checkout customer lines total) (s.body ∷ []) → Member (body.Shipped checkout) (made_on SHIPMENT_TO_ORDER before ++ on 13 s.made)
-        either (inl earlier) = member-left (body.Shipped checkout) (made_on SHIPMENT_TO_ORDER before) (on 13 s.made) (rest earlier)
-        either (inr (inl now)) = member-right (body.Shipped checkout) (made_on SHIPMENT_TO_ORDER before) (on 13 s.made) (subst (λ bs. Member (body.Shipped checkout) bs) (sym (last before s follows now)) (inl refl))
+        either : Member (body.Confirmed checkout customer lines total) (taken_bodies before) ⊎ Member (body.Confirmed checkout customer lines total) (s.body ∷ []) → Member (body.Shipped checkout) (made_on SHIPMENT_TO_ORDER before ++ on SHIPMENT_TO_ORDER s.made)
+        either (inl earlier) = member-left (body.Shipped checkout) (made_on SHIPMENT_TO_ORDER before) (on SHIPMENT_TO_ORDER s.made) (rest earlier)
+        either (inr (inl now)) = member-right (body.Shipped checkout) (made_on SHIPMENT_TO_ORDER before) (on SHIPMENT_TO_ORDER s.made) (subst (λ bs. Member (body.Shipped checkout) bs) (sym (last before s follows now)) (inl refl))
         either (inr (inr none)) = absurd none
 
 -- a package of a payment has its checkout and customer, and a line of it
@@ -169,20 +169,20 @@ delivered_package before item here =
     package_paid (taken_bodies before) item (member-filter (is_open before) item (packages before) (member-filter (goes_with (oldest_of (open_packages before))) item (open_packages before) here))
 
 -- an item of a delivery, at the step that made it
-delivered-at : (steps : List Step) (xs : List Body) (items : List Item) (m : MadeOn Role.Shipment 13 steps xs (body.Delivered items)) (item : Item) → Member item items → IsOfPayment (taken_bodies m.before) item
+delivered-at : (steps : List Step) (xs : List Body) (items : List Item) (m : MadeOn Role.Shipment SHIPMENT_TO_ORDER steps xs (body.Delivered items)) (item : Item) → Member item items → IsOfPayment (taken_bodies m.before) item
 delivered-at steps xs items m item here = delivered_package m.before item (subst (λ items. Member item items) (shipping-at steps xs (body.Delivered items) m) here)
 
 -- what is delivered was shipped before
 pub delivered-shipped : (steps : List Step) → IsRunOf Role.Shipment steps → (xs ys : List Body) (items : List Item) → made_on SHIPMENT_TO_ORDER steps ≡ xs ++ body.Delivered items ∷ ys → (item : Item) → Member item items → Member (body.Shipped item.checkout) xs
 delivered-shipped steps run xs ys items is item here =
-    let m = made_split Role.Shipment 13 steps xs ys (body.Delivered items) run is in
+    let m = made_split Role.Shipment SHIPMENT_TO_ORDER steps xs ys (body.Delivered items) run is in
     let paid = delivered-at steps xs items m item here in
     subst (λ bs. Member (body.Shipped item.checkout) bs) m.earlier (paid-shipped m.before m.run item.checkout item.customer paid.lines paid.total paid.taken)
 
 -- what is delivered was paid for
 pub delivered-paid : (steps : List Step) → IsRunOf Role.Shipment steps → (items : List Item) → Member (body.Delivered items) (made_on SHIPMENT_TO_ORDER steps) → (item : Item) → Member item items → IsPaidFor steps item
 delivered-paid steps run items made item here =
-    let found = made_by Role.Shipment 13 steps (body.Delivered items) run made in
+    let found = made_by Role.Shipment SHIPMENT_TO_ORDER steps (body.Delivered items) run made in
     let m = found.1 in
     let paid = delivered-at steps found.0 items m item here in
     record { lines = paid.lines; total = paid.total; taken = member-taken-before steps m.before (m.step ∷ m.after) (body.Confirmed item.checkout item.customer paid.lines paid.total) m.is paid.taken; line = paid.line }

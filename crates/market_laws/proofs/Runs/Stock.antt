@@ -25,12 +25,13 @@ use Rattle.market_events.specs.Services.{Follows, IsRunOf, role_fits, is_known, 
 use Rattle.market_events.specs.Steps.{Step, Sending, taken_bodies, made_on, told, refused}
 use Rattle.market_events.specs.Stocks.{StockSums, stock_rows, level_rows, stock_asked, reserve_rows, first_some, line_refusal, stock_taken_rows, stock_sums}
 use Rattle.market_events.specs.WellFormed.{pieces_max}
-use Rattle.market_events.specs.declared.links.Link.TheVariants.{Service}
+use Rattle.market_events.specs.declared.links.Link.TheVariants.{Service, Asked, Told}
+use Rattle.market_events.specs.declared.links.Link.{Link}
 use Rattle.market_events.proofs.Values.Lists.{and_both, not_true}
 use Rattle.market_events.proofs.Values.Same.{same_id-true}
 use Rattle.market_events.proofs.Runs.Stock.{answers-stock}
 use Rattle.market_laws.specs.Runs.{Member, bodies_made, tells, holds_pieces}
-use Rattle.market_laws.proofs.Runs.Counts.{on, count_on, count_all, adding-on, adding-both, made-is-taken, taken_once, member-taken, IsHere, told-is-asked, one}
+use Rattle.market_laws.proofs.Runs.Counts.{on, count_on, count_all, adding-on, adding-both, made-is-taken, taken_once, member-taken, IsHere, told-is-asked, one, IsBetween}
 use Rattle.market_laws.proofs.Runs.Causes.{made_by}
 
 -- what holds of the answers holds of what a step makes
@@ -58,8 +59,10 @@ asked_cases P s id (ask.Level key) nothing tell = levels (s.look key)
 asked_cases P s id other nothing tell = nothing (λ here. absurd (omega arith))
 
 -- a request makes nothing on a service link
-quiet : (n : ℕ) (s : StockSums) (id : RequestId) (a : Ask) → on n (stock_asked s id a) ≡ []
-quiet n s id a = asked_cases (λ made. on n made ≡ []) s id a (λ elsewhere. refl) (λ r. refl)
+quiet : (link : Link) → IsBetween link → (s : StockSums) (id : RequestId) (a : Ask) → on link (stock_asked s id a) ≡ []
+quiet (Asked lane service) never s id a = absurd never
+quiet (Told service lane) never s id a = absurd never
+quiet (Service n) between s id a = asked_cases (λ made. on (Service n) made ≡ []) s id a (λ elsewhere. refl) (λ r. refl)
 
 -- stock tells as much as it was asked
 pub stock_told-is : (steps : List Step) → IsRunOf Role.Stock steps → (id : RequestId) → count_by (tells id) (bodies_made steps) ≡ count_by (asks id) (taken_bodies steps)
@@ -77,15 +80,15 @@ stock_told-is steps run id = told-is-asked Role.Stock id (stock_makes (λ made b
 -- each checkout that stock was sent is answered once
 pub answered-is : (steps : List Step) → IsRunOf Role.Stock steps → (id : RequestId) → count_by (holds_pieces id) (made_on STOCK_TO_ORDER steps) + count_by (ends id) (made_on STOCK_TO_CART steps) ≡ count_by (reserves id) (taken_bodies steps)
 answered-is steps run id =
-    made-is-taken Role.Stock (λ made. count_on 4 (holds_pieces id) made + count_on 3 (ends id) made) (λ b. cond (reserves id b) 1 0) (adding-both (adding-on 4 (holds_pieces id)) (adding-on 3 (ends id)))
-    (stock_makes (λ made b. count_on 4 (holds_pieces id) made + count_on 3 (ends id) made ≡ cond (reserves id b) 1 0) each) steps run
+    made-is-taken Role.Stock (λ made. count_on STOCK_TO_ORDER (holds_pieces id) made + count_on STOCK_TO_CART (ends id) made) (λ b. cond (reserves id b) 1 0) (adding-both (adding-on STOCK_TO_ORDER (holds_pieces id)) (adding-on STOCK_TO_CART (ends id)))
+    (stock_makes (λ made b. count_on STOCK_TO_ORDER (holds_pieces id) made + count_on STOCK_TO_CART (ends id) made ≡ cond (reserves id b) 1 0) each) steps run
   where
-    answer : (checkout : RequestId) (customer : ℕ) (lines : List PricedLine) (refusal : Option (ProductKey × StockRule)) → count_on 4 (holds_pieces id) (reserve_rows checkout customer lines refusal) + count_on 3 (ends id) (reserve_rows checkout customer lines refusal) ≡ cond (same_id checkout id) 1 0
+    answer : (checkout : RequestId) (customer : ℕ) (lines : List PricedLine) (refusal : Option (ProductKey × StockRule)) → count_on STOCK_TO_ORDER (holds_pieces id) (reserve_rows checkout customer lines refusal) + count_on STOCK_TO_CART (ends id) (reserve_rows checkout customer lines refusal) ≡ cond (same_id checkout id) 1 0
     answer checkout customer lines None = omega arith
     answer checkout customer lines (Some refusal) = omega arith
 
-    each : (s : StockSums) (b : Body) → count_on 4 (holds_pieces id) (stock_taken_rows s b) + count_on 3 (ends id) (stock_taken_rows s b) ≡ cond (reserves id b) 1 0
-    each s (body.Asked request) = asked_cases (λ made. count_on 4 (holds_pieces id) made + count_on 3 (ends id) made ≡ 0) s request.id request.ask (λ elsewhere. refl) (λ r. refl)
+    each : (s : StockSums) (b : Body) → count_on STOCK_TO_ORDER (holds_pieces id) (stock_taken_rows s b) + count_on STOCK_TO_CART (ends id) (stock_taken_rows s b) ≡ cond (reserves id b) 1 0
+    each s (body.Asked request) = asked_cases (λ made. count_on STOCK_TO_ORDER (holds_pieces id) made + count_on STOCK_TO_CART (ends id) made ≡ 0) s request.id request.ask (λ elsewhere. refl) (λ r. refl)
     each s (body.Reserve checkout customer lines) = answer checkout customer lines (first_some (line_refusal s) lines)
     each s other = refl
 
@@ -106,35 +109,35 @@ IsAnswerTo (body.ReserveFailed checkout key rule) b = (customer : ℕ) × (lines
 IsAnswerTo other b = ⊥
 
 -- what is made on a link answers a checkout that was sent, where what a checkout makes there does
-answer_to : (n : ℕ) → ((checkout : RequestId) (customer : ℕ) (lines : List PricedLine) (refusal : Option (ProductKey × StockRule)) (made : Body) → on n (reserve_rows checkout customer lines refusal) ≡ made ∷ [] → IsAnswerTo made (body.Reserve checkout customer lines))
-    → (s : StockSums) (b made : Body) → on n (stock_taken_rows s b) ≡ made ∷ [] → IsAnswerTo made b
-answer_to n answer s (body.Asked request) made is = let none = quiet n s request.id request.ask in cc
-answer_to n answer s (body.Reserve checkout customer lines) made is = answer checkout customer lines (first_some (line_refusal s) lines) made is
-answer_to n answer s other made is = cc
+answer_to : (link : Link) → IsBetween link → ((checkout : RequestId) (customer : ℕ) (lines : List PricedLine) (refusal : Option (ProductKey × StockRule)) (made : Body) → on link (reserve_rows checkout customer lines refusal) ≡ made ∷ [] → IsAnswerTo made (body.Reserve checkout customer lines))
+    → (s : StockSums) (b made : Body) → on link (stock_taken_rows s b) ≡ made ∷ [] → IsAnswerTo made b
+answer_to link between answer s (body.Asked request) made is = let none = quiet link between s request.id request.ask in cc
+answer_to link between answer s (body.Reserve checkout customer lines) made is = answer checkout customer lines (first_some (line_refusal s) lines) made is
+answer_to link between answer s other made is = cc
 
 -- to orders, and to the cart
-held : (checkout : RequestId) (customer : ℕ) (lines : List PricedLine) (refusal : Option (ProductKey × StockRule)) (made : Body) → on 4 (reserve_rows checkout customer lines refusal) ≡ made ∷ [] → IsAnswerTo made (body.Reserve checkout customer lines)
+held : (checkout : RequestId) (customer : ℕ) (lines : List PricedLine) (refusal : Option (ProductKey × StockRule)) (made : Body) → on STOCK_TO_ORDER (reserve_rows checkout customer lines refusal) ≡ made ∷ [] → IsAnswerTo made (body.Reserve checkout customer lines)
 held checkout customer lines None made is = subst (λ m. IsAnswerTo m (body.Reserve checkout customer lines)) (one is) refl
 held checkout customer lines (Some refusal) made is = cc
 
-failed : (checkout : RequestId) (customer : ℕ) (lines : List PricedLine) (refusal : Option (ProductKey × StockRule)) (made : Body) → on 3 (reserve_rows checkout customer lines refusal) ≡ made ∷ [] → IsAnswerTo made (body.Reserve checkout customer lines)
+failed : (checkout : RequestId) (customer : ℕ) (lines : List PricedLine) (refusal : Option (ProductKey × StockRule)) (made : Body) → on STOCK_TO_CART (reserve_rows checkout customer lines refusal) ≡ made ∷ [] → IsAnswerTo made (body.Reserve checkout customer lines)
 failed checkout customer lines None made is = cc
 failed checkout customer lines (Some refusal) made is = subst (λ m. IsAnswerTo m (body.Reserve checkout customer lines)) (one is) (customer, lines, refl)
 
 -- the step that made it took the checkout
-answered_for : (n : ℕ) → ((s : StockSums) (b made : Body) → on n (stock_taken_rows s b) ≡ made ∷ [] → IsAnswerTo made b) → (steps : List Step) (made : Body) → IsRunOf Role.Stock steps → Member made (made_on (Service n) steps) → (b : Body) × IsAnswerTo made b × Member b (taken_bodies steps)
-answered_for n answers steps made run here =
-    let m = (made_by Role.Stock n steps made run here).1 in
-    (m.step.body, answers (stock_sums m.before) m.step.body made (sym (ap (on n) (m.follows.made ∙ answers-stock m.before m.step.from m.step.body)) ∙ m.here), member-taken steps m.before m.step m.after m.is)
+answered_for : (link : Link) → ((s : StockSums) (b made : Body) → on link (stock_taken_rows s b) ≡ made ∷ [] → IsAnswerTo made b) → (steps : List Step) (made : Body) → IsRunOf Role.Stock steps → Member made (made_on link steps) → (b : Body) × IsAnswerTo made b × Member b (taken_bodies steps)
+answered_for link answers steps made run here =
+    let m = (made_by Role.Stock link steps made run here).1 in
+    (m.step.body, answers (stock_sums m.before) m.step.body made (sym (ap (on link) (m.follows.made ∙ answers-stock m.before m.step.from m.step.body)) ∙ m.here), member-taken steps m.before m.step m.after m.is)
 
 -- pieces are held for a checkout that was sent with these lines
 pub held-reserve : (steps : List Step) → IsRunOf Role.Stock steps → (checkout : RequestId) (customer : ℕ) (lines : List PricedLine) → Member (body.StockConfirmed checkout customer lines) (made_on STOCK_TO_ORDER steps) → Member (body.Reserve checkout customer lines) (taken_bodies steps)
 held-reserve steps run checkout customer lines here =
-    let found = answered_for 4 (answer_to 4 held) steps (body.StockConfirmed checkout customer lines) run here in
+    let found = answered_for STOCK_TO_ORDER (answer_to STOCK_TO_ORDER tt held) steps (body.StockConfirmed checkout customer lines) run here in
     subst (λ b. Member b (taken_bodies steps)) found.1 found.2
 
 -- pieces are refused to a checkout that was sent
 pub failed-reserve : (steps : List Step) → IsRunOf Role.Stock steps → (checkout : RequestId) (key : ProductKey) (rule : StockRule) → Member (body.ReserveFailed checkout key rule) (made_on STOCK_TO_CART steps) → (customer : ℕ) × (lines : List PricedLine) × Member (body.Reserve checkout customer lines) (taken_bodies steps)
 failed-reserve steps run checkout key rule here =
-    let found = answered_for 3 (answer_to 3 failed) steps (body.ReserveFailed checkout key rule) run here in
+    let found = answered_for STOCK_TO_CART (answer_to STOCK_TO_CART tt failed) steps (body.ReserveFailed checkout key rule) run here in
     (found.1.0, found.1.1, subst (λ b. Member b (taken_bodies steps)) found.1.2 found.2)

@@ -5,7 +5,6 @@ use Rattle.std.proofs.Common.{◌≡◌, ℕ, ◌+◌, ◌<◌, ◌≤◌, Bool,
 use Rattle.market_amounts.specs.declared.keys.RequestId.{RequestId}
 use Rattle.market_events.specs.declared.bodies.Body.{Body}
 use Rattle.market_events.specs.declared.bodies.Body.TheVariants as body
-use Rattle.market_events.specs.declared.links.Link.TheVariants.{Service}
 use Rattle.market_events.specs.Carried.{carries, service_carries}
 use Rattle.market_events.specs.Links.{cart_node, stock_node, order_node, payment_node, shipment_node}
 use Rattle.market_events.specs.Orders.{ships}
@@ -13,8 +12,9 @@ use Rattle.market_events.specs.Requests.{same_id}
 use Rattle.market_events.specs.Services.{ends, invoices, reserves}
 use Rattle.market_events.specs.Steps.{Step, taken_bodies, made_on}
 use Rattle.market_events.specs.Stocks.{confirms, fails, settles}
-use Rattle.market_events.specs.declared.links.TheConstants.{CART_TO_STOCK, STOCK_TO_CART, STOCK_TO_ORDER}
+use Rattle.market_events.specs.declared.links.TheConstants.{CART_TO_STOCK, STOCK_TO_CART, STOCK_TO_ORDER, PAYMENT_TO_ORDER, PAYMENT_TO_SHIPMENT, SHIPMENT_TO_ORDER}
 use Rattle.market_events.specs.declared.links.TheConstants.{ORDER_TO_PAYMENT, ORDER_TO_CART, PAYMENT_TO_STOCK}
+use Rattle.market_events.specs.declared.links.Link.{Link}
 use Rattle.market_events.proofs.Values.Lists.{sum_by_agree, sum_by_plus}
 use Rattle.market_history.specs.Blocks.{services}
 use Rattle.market_history.specs.Histories.{Histories, journal_at}
@@ -28,7 +28,7 @@ use Rattle.market_laws.proofs.Origins.Made.{steps-run, whole}
 use Rattle.market_laws.proofs.Origins.Senders.{made-as}
 use Rattle.market_laws.proofs.Settled.Passing.{count-kept}
 use Rattle.market_laws.proofs.Runs.Orders.{invoices-is-held, ends-is}
-use Rattle.market_laws.proofs.Runs.Payments.{payments-9, payments-10, settles-is-invoices}
+use Rattle.market_laws.proofs.Runs.Payments.{payments-to-order, payments-to-shipment, settles-is-invoices}
 use Rattle.market_laws.proofs.Runs.Shipments.{shipped-is}
 use Rattle.market_laws.proofs.Runs.Stock.{answered-is}
 use Rattle.market_laws.proofs.Settled.Links.{ComesOn, count-made}
@@ -43,35 +43,35 @@ finishes id (body.Ended checkout ending) = same_id checkout id
 finishes id other = false
 
 -- where each kind comes in
-pub reserves-come : (id : RequestId) → ComesOn stock_node 2 (reserves id)
+pub reserves-come : (id : RequestId) → ComesOn stock_node CART_TO_STOCK (reserves id)
 reserves-come id (body.Reserve checkout customer lines) passes = (tt, refl)
 reserves-come id other passes = cc
 
-pub refuses-come : (id : RequestId) → ComesOn cart_node 3 (refuses id)
+pub refuses-come : (id : RequestId) → ComesOn cart_node STOCK_TO_CART (refuses id)
 refuses-come id (body.ReserveFailed checkout key rule) passes = (tt, refl)
 refuses-come id other passes = cc
 
-pub holds-come : (id : RequestId) → ComesOn order_node 4 (holds_pieces id)
+pub holds-come : (id : RequestId) → ComesOn order_node STOCK_TO_ORDER (holds_pieces id)
 holds-come id (body.StockConfirmed checkout customer lines) passes = (tt, refl)
 holds-come id other passes = cc
 
-pub invoices-come : (id : RequestId) → ComesOn payment_node 5 (invoices id)
+pub invoices-come : (id : RequestId) → ComesOn payment_node ORDER_TO_PAYMENT (invoices id)
 invoices-come id (body.Invoice checkout customer lines total) passes = (tt, refl)
 invoices-come id other passes = cc
 
-pub finishes-come : (id : RequestId) → ComesOn cart_node 7 (finishes id)
+pub finishes-come : (id : RequestId) → ComesOn cart_node ORDER_TO_CART (finishes id)
 finishes-come id (body.Ended checkout ending) passes = (tt, refl)
 finishes-come id other passes = cc
 
-pub fails-come : (id : RequestId) → ComesOn order_node 9 (fails id)
+pub fails-come : (id : RequestId) → ComesOn order_node PAYMENT_TO_ORDER (fails id)
 fails-come id (body.Failed checkout customer rule) passes = (tt, refl)
 fails-come id other passes = cc
 
-pub confirms-come : (id : RequestId) → ComesOn shipment_node 10 (confirms id)
+pub confirms-come : (id : RequestId) → ComesOn shipment_node PAYMENT_TO_SHIPMENT (confirms id)
 confirms-come id (body.Confirmed checkout customer lines total) passes = (tt, refl)
 confirms-come id other passes = cc
 
-pub ships-come : (id : RequestId) → ComesOn order_node 13 (ships id)
+pub ships-come : (id : RequestId) → ComesOn order_node SHIPMENT_TO_ORDER (ships id)
 ships-come id (body.Shipped checkout) passes = (tt, refl)
 ships-come id other passes = cc
 
@@ -103,24 +103,24 @@ module _ (h : Histories) (lawful : IsLawful h) where
   steps_now n = steps_at n (journal_at h n)
 
   -- of what is made on a link no more passes one test than another, where that is so of all that the link carries
-  pub count-carried : (n : ℕ) → n < services → (k : ℕ) (test other : Body → Bool) → ((b : Body) → service_carries (Service k) b ≡ true → test b ≡ true → other b ≡ true) → count_by test (made_on (Service k) (steps_now n)) ≤ count_by other (made_on (Service k) (steps_now n))
-  count-carried n lt k test other each =
-      subst (λ bs. count_by test bs ≤ count_by other bs) (whole h lawful n lt (Service k))
-      (count-members test other (bodies_on (Service k) (journal_at h n)) (λ b here passes.
-      let m = made-of-member h lawful n (omega arith) (Service k) b here in
+  pub count-carried : (n : ℕ) → n < services → (link : Link) (test other : Body → Bool) → ((b : Body) → carries link b ≡ true → test b ≡ true → other b ≡ true) → count_by test (made_on link (steps_now n)) ≤ count_by other (made_on link (steps_now n))
+  count-carried n lt link test other each =
+      subst (λ bs. count_by test bs ≤ count_by other bs) (whole h lawful n lt link)
+      (count-members test other (bodies_on link (journal_at h n)) (λ b here passes.
+      let m = made-of-member h lawful n (omega arith) link b here in
       let carried = (made-as h lawful n m.event m.made).carried in
       each b (subst (λ l. carries l b ≡ true) m.on (subst (λ x. carries m.event.link x ≡ true) m.body_is carried)) passes))
 
   -- from stock to the cart only refusals end, and from orders to the cart only ends of orders
-  on_3 : (id : RequestId) (b : Body) → service_carries STOCK_TO_CART b ≡ true → ends id b ≡ true → refuses id b ≡ true
-  on_3 id (body.ReserveFailed checkout key rule) carried passes = passes
-  on_3 id (body.Ended checkout ending) carried passes = carried
-  on_3 id other carried passes = cc
+  stock_refuses : (id : RequestId) (b : Body) → service_carries STOCK_TO_CART b ≡ true → ends id b ≡ true → refuses id b ≡ true
+  stock_refuses id (body.ReserveFailed checkout key rule) carried passes = passes
+  stock_refuses id (body.Ended checkout ending) carried passes = carried
+  stock_refuses id other carried passes = cc
 
-  on_7 : (id : RequestId) (b : Body) → service_carries ORDER_TO_CART b ≡ true → ends id b ≡ true → finishes id b ≡ true
-  on_7 id (body.Ended checkout ending) carried passes = passes
-  on_7 id (body.ReserveFailed checkout key rule) carried passes = carried
-  on_7 id other carried passes = cc
+  orders_finish : (id : RequestId) (b : Body) → service_carries ORDER_TO_CART b ≡ true → ends id b ≡ true → finishes id b ≡ true
+  orders_finish id (body.Ended checkout ending) carried passes = passes
+  orders_finish id (body.ReserveFailed checkout key rule) carried passes = carried
+  orders_finish id other carried passes = cc
 
   refuses-end : (id : RequestId) (b : Body) → refuses id b ≡ true → ends id b ≡ true
   refuses-end id (body.ReserveFailed checkout key rule) passes = passes
@@ -130,18 +130,18 @@ module _ (h : Histories) (lawful : IsLawful h) where
   finishes-end id (body.Ended checkout ending) passes = passes
   finishes-end id other passes = cc
 
-  pub refused-3 : (id : RequestId) → count_by (ends id) (made_on STOCK_TO_CART (steps_now stock_node)) ≡ count_by (refuses id) (made_on STOCK_TO_CART (steps_now stock_node))
-  refused-3 id = omega (
+  pub refused-by-stock : (id : RequestId) → count_by (ends id) (made_on STOCK_TO_CART (steps_now stock_node)) ≡ count_by (refuses id) (made_on STOCK_TO_CART (steps_now stock_node))
+  refused-by-stock id = omega (
     arith,
-    count-carried stock_node (omega arith) 3 (ends id) (refuses id) (on_3 id),
-    count-carried stock_node (omega arith) 3 (refuses id) (ends id) (λ b carried. refuses-end id b),
+    count-carried stock_node (omega arith) STOCK_TO_CART (ends id) (refuses id) (stock_refuses id),
+    count-carried stock_node (omega arith) STOCK_TO_CART (refuses id) (ends id) (λ b carried. refuses-end id b),
   )
 
-  pub finished-7 : (id : RequestId) → count_by (ends id) (made_on ORDER_TO_CART (steps_now order_node)) ≡ count_by (finishes id) (made_on ORDER_TO_CART (steps_now order_node))
-  finished-7 id = omega (
+  pub finished-by-orders : (id : RequestId) → count_by (ends id) (made_on ORDER_TO_CART (steps_now order_node)) ≡ count_by (finishes id) (made_on ORDER_TO_CART (steps_now order_node))
+  finished-by-orders id = omega (
     arith,
-    count-carried order_node (omega arith) 7 (ends id) (finishes id) (on_7 id),
-    count-carried order_node (omega arith) 7 (finishes id) (ends id) (λ b carried. finishes-end id b),
+    count-carried order_node (omega arith) ORDER_TO_CART (ends id) (finishes id) (orders_finish id),
+    count-carried order_node (omega arith) ORDER_TO_CART (finishes id) (ends id) (λ b carried. finishes-end id b),
   )
 
   module _ (settled : IsSettled h) (id : RequestId) where
@@ -149,11 +149,11 @@ module _ (h : Histories) (lawful : IsLawful h) where
     pub sent-on : count_by (holds_pieces id) (made_on STOCK_TO_ORDER (steps_now stock_node)) + count_by (ends id) (made_on STOCK_TO_CART (steps_now stock_node)) ≡ count_by (reserves id) (made_on CART_TO_STOCK (steps_now cart_node))
     sent-on =
         answered-is (steps_now stock_node) (steps-run stock_node (journal_at h stock_node)) id
-        ∙ count-made h lawful settled stock_node cart_node 2 (omega arith) (omega arith) (omega arith) refl refl (reserves id) (reserves-come id)
+        ∙ count-made h lawful settled stock_node cart_node CART_TO_STOCK (omega arith) (omega arith) (omega arith) refl refl (reserves id) (reserves-come id)
 
     -- orders took what is held
     pub held-orders : count_by (holds_pieces id) (taken_bodies (steps_now order_node)) ≡ count_by (holds_pieces id) (made_on STOCK_TO_ORDER (steps_now stock_node))
-    held-orders = count-made h lawful settled order_node stock_node 4 (omega arith) (omega arith) (omega arith) refl refl (holds_pieces id) (holds-come id)
+    held-orders = count-made h lawful settled order_node stock_node STOCK_TO_ORDER (omega arith) (omega arith) (omega arith) refl refl (holds_pieces id) (holds-come id)
 
     -- and invoiced it
     pub held-invoiced : count_by (invoices id) (made_on ORDER_TO_PAYMENT (steps_now order_node)) ≡ count_by (holds_pieces id) (made_on STOCK_TO_ORDER (steps_now stock_node))
@@ -162,22 +162,22 @@ module _ (h : Histories) (lawful : IsLawful h) where
     -- so it was paid for, or was not
     pub held-settled : count_by (confirms id) (made_on PAYMENT_TO_STOCK (steps_now payment_node)) + count_by (fails id) (made_on PAYMENT_TO_STOCK (steps_now payment_node)) ≡ count_by (holds_pieces id) (made_on STOCK_TO_ORDER (steps_now stock_node))
     held-settled = sym (settles-parts id (made_on PAYMENT_TO_STOCK (steps_now payment_node))) ∙ settles-is-invoices (steps_now payment_node) (steps-run payment_node (journal_at h payment_node)) id
-        ∙ count-made h lawful settled payment_node order_node 5 (omega arith) (omega arith) (omega arith) refl refl (invoices id) (invoices-come id) ∙ held-invoiced
+        ∙ count-made h lawful settled payment_node order_node ORDER_TO_PAYMENT (omega arith) (omega arith) (omega arith) refl refl (invoices id) (invoices-come id) ∙ held-invoiced
 
     -- orders took each failure, and a shipment for each payment
     pub failed-orders : count_by (fails id) (taken_bodies (steps_now order_node)) ≡ count_by (fails id) (made_on PAYMENT_TO_STOCK (steps_now payment_node))
     failed-orders =
-        count-made h lawful settled order_node payment_node 9 (omega arith) (omega arith) (omega arith) refl refl (fails id) (fails-come id)
-        ∙ ap (count_by (fails id)) (sym (payments-9 (steps_now payment_node) (steps-run payment_node (journal_at h payment_node))))
+        count-made h lawful settled order_node payment_node PAYMENT_TO_ORDER (omega arith) (omega arith) (omega arith) refl refl (fails id) (fails-come id)
+        ∙ ap (count_by (fails id)) (sym (payments-to-order (steps_now payment_node) (steps-run payment_node (journal_at h payment_node))))
 
     pub paid-shipments : count_by (confirms id) (taken_bodies (steps_now shipment_node)) ≡ count_by (confirms id) (made_on PAYMENT_TO_STOCK (steps_now payment_node))
     paid-shipments =
-        count-made h lawful settled shipment_node payment_node 10 (omega arith) (omega arith) (omega arith) refl refl (confirms id) (confirms-come id)
-        ∙ ap (count_by (confirms id)) (payments-10 (steps_now payment_node) (steps-run payment_node (journal_at h payment_node))) ∙ count-kept (confirms id) is_payment (confirms-payment id) (made_on PAYMENT_TO_STOCK (steps_now payment_node))
+        count-made h lawful settled shipment_node payment_node PAYMENT_TO_SHIPMENT (omega arith) (omega arith) (omega arith) refl refl (confirms id) (confirms-come id)
+        ∙ ap (count_by (confirms id)) (payments-to-shipment (steps_now payment_node) (steps-run payment_node (journal_at h payment_node))) ∙ count-kept (confirms id) is_payment (confirms-payment id) (made_on PAYMENT_TO_STOCK (steps_now payment_node))
 
     pub shipped-orders : count_by (ships id) (taken_bodies (steps_now order_node)) ≡ count_by (confirms id) (made_on PAYMENT_TO_STOCK (steps_now payment_node))
     shipped-orders =
-        count-made h lawful settled order_node shipment_node 13 (omega arith) (omega arith) (omega arith) refl refl (ships id) (ships-come id)
+        count-made h lawful settled order_node shipment_node SHIPMENT_TO_ORDER (omega arith) (omega arith) (omega arith) refl refl (ships id) (ships-come id)
         ∙ shipped-is (steps_now shipment_node) (steps-run shipment_node (journal_at h shipment_node)) id ∙ paid-shipments
 
     -- orders ended what is held
@@ -186,10 +186,10 @@ module _ (h : Histories) (lawful : IsLawful h) where
 
     -- the cart took each refusal, and each end
     pub refused-cart : count_by (refuses id) (taken_bodies (steps_now cart_node)) ≡ count_by (ends id) (made_on STOCK_TO_CART (steps_now stock_node))
-    refused-cart = count-made h lawful settled cart_node stock_node 3 (omega arith) (omega arith) (omega arith) refl refl (refuses id) (refuses-come id) ∙ sym (refused-3 id)
+    refused-cart = count-made h lawful settled cart_node stock_node STOCK_TO_CART (omega arith) (omega arith) (omega arith) refl refl (refuses id) (refuses-come id) ∙ sym (refused-by-stock id)
 
     pub finished-cart : count_by (finishes id) (taken_bodies (steps_now cart_node)) ≡ count_by (ends id) (made_on ORDER_TO_CART (steps_now order_node))
-    finished-cart = count-made h lawful settled cart_node order_node 7 (omega arith) (omega arith) (omega arith) refl refl (finishes id) (finishes-come id) ∙ sym (finished-7 id)
+    finished-cart = count-made h lawful settled cart_node order_node ORDER_TO_CART (omega arith) (omega arith) (omega arith) refl refl (finishes id) (finishes-come id) ∙ sym (finished-by-orders id)
 
     -- the cart took as many ends as it sent on
     pub ended-sent : count_by (ends id) (taken_bodies (steps_now cart_node)) ≡ count_by (reserves id) (made_on CART_TO_STOCK (steps_now cart_node))

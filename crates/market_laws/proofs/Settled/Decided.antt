@@ -32,7 +32,7 @@ use Rattle.market_laws.proofs.Settled.Ways.{Counts, counts-early, counts-refused
 use Rattle.market_laws.proofs.Settled.Undone.{unreserved, unreserved-failed, unsold, unspent, entries-none, entries-cancelled}
 use Rattle.market_laws.proofs.Settled.WholeEntries.{entries-whole}
 use Rattle.market_laws.proofs.Settled.WholePackages.{payment-of, packages-whole, packages-none}
-use Rattle.market_laws.proofs.Settled.WholePayments.{paid-8, paid-9, paid-10, paid-11, paid-12, unfailed-8, unfailed-9, unfailed-11, unfailed-12}
+use Rattle.market_laws.proofs.Settled.WholePayments.{paid-to-stock, paid-to-order, paid-to-shipment, paid-to-customer, paid-to-seller, unfailed-to-stock, unfailed-to-order, unfailed-to-customer, unfailed-to-seller}
 
 module _ (h : Histories) (lawful : IsLawful h) (settled : IsSettled h) (c : RequestId) where
   -- it is held and paid for
@@ -46,15 +46,15 @@ module _ (h : Histories) (lawful : IsLawful h) (settled : IsSettled h) (c : Requ
         not_released = stock-failed h lawful settled c ∙ n.failed_is;
         order_total = sym total_is;
         order_status = order-whole h lawful settled c n;
-        paid_to_stock = paid-8 h lawful settled c n total total_is;
-        paid_to_order = paid-9 h lawful settled c n total total_is;
-        paid_to_shipment = paid-10 h lawful settled c n total total_is;
-        paid_to_customer = paid-11 h lawful settled c n total total_is;
-        paid_to_seller = paid-12 h lawful settled c n total total_is;
-        not_failed_to_stock = unfailed-8 h lawful settled c n total total_is;
-        not_failed_to_order = unfailed-9 h lawful settled c n total total_is;
-        not_failed_to_customer = unfailed-11 h lawful settled c n total total_is;
-        not_failed_to_seller = unfailed-12 h lawful settled c n total total_is;
+        paid_to_stock = paid-to-stock h lawful settled c n total total_is;
+        paid_to_order = paid-to-order h lawful settled c n total total_is;
+        paid_to_shipment = paid-to-shipment h lawful settled c n total total_is;
+        paid_to_customer = paid-to-customer h lawful settled c n total total_is;
+        paid_to_seller = paid-to-seller h lawful settled c n total total_is;
+        not_failed_to_stock = unfailed-to-stock h lawful settled c n total total_is;
+        not_failed_to_order = unfailed-to-order h lawful settled c n total total_is;
+        not_failed_to_customer = unfailed-to-customer h lawful settled c n total total_is;
+        not_failed_to_seller = unfailed-to-seller h lawful settled c n total total_is;
         packages = packages-whole h lawful settled c n p;
         entries = entries-whole h lawful settled c n p;
       }

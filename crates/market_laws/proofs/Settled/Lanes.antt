@@ -17,6 +17,7 @@ use Rattle.market_events.specs.Requests.{lane_of}
 use Rattle.market_events.specs.declared.roles.Role.{Role}
 use Rattle.market_events.specs.Services.{node_of, asks}
 use Rattle.market_events.specs.Steps.{taken_bodies, made_in, body_on}
+use Rattle.market_events.specs.declared.lanes.TheConstants.{LANES}
 use Rattle.market_events.proofs.Values.Lists.{count-some, false_from}
 use Rattle.market_events.proofs.Values.Offers.{same_link-same}
 use Rattle.market_events.proofs.Values.Same.{same_id-true, same_id-self}
@@ -86,7 +87,7 @@ module _ (h : Histories) (lawful : IsLawful h) (settled : IsSettled h) where
       cart : count_by (tells id) (bodies_made (steps_now h lawful cart_node)) ≡ count_by (asks id) (taken_bodies (steps_now h lawful cart_node))
       cart = omega (arith, told-sent-is (steps_now h lawful cart_node) (steps-run cart_node (journal_at h cart_node)) id, ended-sent h lawful settled id)
 
-  module _ (lane : ℕ) (lt : lane < 16) (r : Request) (kept : Member r (kept_by h lane)) where
+  module _ (lane : ℕ) (lt : lane < LANES) (r : Request) (kept : Member r (kept_by h lane)) where
     -- it is of this lane
     pub kept-lane : lane_of r.id ≡ lane
     kept-lane = let own = given-own (lane_node lane) (grown_at h (lane_node lane) lawful (omega arith)) r kept in omega arith
@@ -132,7 +133,7 @@ module _ (h : Histories) (lawful : IsLawful h) (settled : IsSettled h) where
         ∙ told-some r.id b (map (λ (e : Event). e.body) (events_taken (journal_at h node))) taken (same_id-self r.id)
 
   -- no lane waits
-  pub lanes-idle : (lane : ℕ) → lane < 16 → is_waiting (journal_at h (lane_node lane)) ≡ false
+  pub lanes-idle : (lane : ℕ) → lane < LANES → is_waiting (journal_at h (lane_node lane)) ≡ false
   lanes-idle lane lt = false_from (is_waiting (journal_at h (lane_node lane))) refuted
     where
       waits : (o : Option Reply) → is_none o ≡ true → is_some o ≡ true → false ≡ true

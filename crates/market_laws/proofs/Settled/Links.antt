@@ -10,7 +10,6 @@ use Rattle.market_events.specs.declared.bodies.Body.{Body}
 use Rattle.market_events.specs.declared.events.Event.{Event}
 use Rattle.market_events.specs.declared.events.What.TheVariants.{Taken}
 use Rattle.market_events.specs.declared.links.Link.{Link}
-use Rattle.market_events.specs.declared.links.Link.TheVariants.{Service}
 use Rattle.market_events.specs.Carried.{carries}
 use Rattle.market_events.specs.Links.{IsLink, sender_of, receiver_of, same_link}
 use Rattle.market_events.specs.Steps.{taken_bodies, made_on}
@@ -28,7 +27,7 @@ use Rattle.market_laws.proofs.Causes.Blocks.{fits-here}
 use Rattle.market_laws.proofs.Origins.Made.{whole}
 use Rattle.market_laws.proofs.Origins.Places.{took_of}
 use Rattle.market_laws.proofs.Settled.Passing.{member-kept}
-use Rattle.market_laws.proofs.Fits.KindsOnLinks.{IsNoRequest, below_all, comes_on, came-on}
+use Rattle.market_laws.proofs.Fits.KindsOnLinks.{IsNoRequest, ComesBy, came-on}
 use Rattle.market_laws.proofs.Fits.ItemsApart.{got_taken}
 use Rattle.market_laws.proofs.Runs.Counts.{member-filter}
 use Rattle.market_laws.proofs.Growth.Takers.{grown_at}
@@ -47,9 +46,9 @@ filter-picked {A = A} test (x ∷ xs) = by (test x) (filter-picked test xs)
     by true rest = ap (λ l. x ∷ l) rest
     by false rest = rest
 
--- bodies that pass come into service s on service link k
-abbrev pub ComesOn : ℕ → ℕ → (Body → Bool) → Type 0
-ComesOn s k test = (b : Body) → test b ≡ true → IsNoRequest b × (below_all (comes_on s k b) 16 ≡ true)
+-- bodies that pass come into service s on this link
+abbrev pub ComesOn : ℕ → Link → (Body → Bool) → Type 0
+ComesOn s link test = (b : Body) → test b ≡ true → IsNoRequest b × ComesBy s link b
 
 module _ (h : Histories) (lawful : IsLawful h) where
   -- a service took what its journal did
@@ -73,35 +72,35 @@ module _ (h : Histories) (lawful : IsLawful h) where
     settled-bodies link on b here =
         got_taken link b (journal_at h (receiver_of link)) (subst (λ l. Member b (map (λ (e : Event). e.body) l)) (settled-link link on) here)
 
-    module _ (s n k : ℕ) (small : s < services) (lt : n < services) (on : k < 16) (leaves : sender_of (Service k) ≡ n) (into : receiver_of (Service k) ≡ s) where
+    module _ (s n : ℕ) (link : Link) (small : s < services) (lt : n < services) (on : IsLink link) (leaves : sender_of link ≡ n) (into : receiver_of link ≡ s) where
       -- those that pass, in the order in which they were made
-      pub filter-made : (test : Body → Bool) → ComesOn s k test → filter test (taken_bodies (steps_at s (journal_at h s))) ≡ filter test (made_on (Service k) (steps_at n (journal_at h n)))
+      pub filter-made : (test : Body → Bool) → ComesOn s link test → filter test (taken_bodies (steps_at s (journal_at h s))) ≡ filter test (made_on link (steps_at n (journal_at h n)))
       filter-made test comes =
           sym (filter-picked test (taken_bodies (steps_at s (journal_at h s)))) ∙ ap (filter_map (picked test)) (all-taken s small)
-          ∙ gathered-got (picked test) s (Service k) (grown_at h s lawful (omega arith)) alone
+          ∙ gathered-got (picked test) s link (grown_at h s lawful (omega arith)) alone
           ∙ ap (λ l. filter_map (picked test) (map (λ (e : Event). e.body) l)) (sym there)
-          ∙ ap (filter_map (picked test)) (whole h lawful n lt (Service k)) ∙ filter-picked test (made_on (Service k) (steps_at n (journal_at h n)))
+          ∙ ap (filter_map (picked test)) (whole h lawful n lt link) ∙ filter-picked test (made_on link (steps_at n (journal_at h n)))
         where
-          there : sent (Service k) (journal_at h n) ≡ got (Service k) (journal_at h s)
-          there = ap (λ m. sent (Service k) (journal_at h m)) (sym leaves) ∙ settled-link (Service k) on ∙ ap (λ m. got (Service k) (journal_at h m)) into
+          there : sent link (journal_at h n) ≡ got link (journal_at h s)
+          there = ap (λ m. sent link (journal_at h m)) (sym leaves) ∙ settled-link link on ∙ ap (λ m. got link (journal_at h m)) into
 
-          by : (other : Link) (b : Body) (passes : Bool) → test b ≡ passes → IsLink other → receiver_of other ≡ s → carries other b ≡ true → same_link other (Service k) ≡ false → (if passes then Some b else None) ≡ None
-          by other b true is link received carried differs =
-              let at : other ≡ Service k = came-on s k b small (comes b is).0 (comes b is).1 other link received carried in
-              let same : same_link other (Service k) ≡ true = ap (λ l. same_link l (Service k)) at ∙ same_link-same (Service k) in
+          by : (other : Link) (b : Body) (passes : Bool) → test b ≡ passes → IsLink other → receiver_of other ≡ s → carries other b ≡ true → same_link other link ≡ false → (if passes then Some b else None) ≡ None
+          by other b true is valid received carried differs =
+              let at : other ≡ link = came-on s link b small (comes b is).0 (comes b is).1 other valid received carried in
+              let same : same_link other link ≡ true = ap (λ l. same_link l link) at ∙ same_link-same link in
               let no : ⊥ = cc in absurd no
-          by other b false is link received carried differs = refl
+          by other b false is valid received carried differs = refl
 
-          alone : (other : Link) (b : Body) → IsLink other → receiver_of other ≡ s → carries other b ≡ true → same_link other (Service k) ≡ false → picked test b ≡ None
-          alone other b link received carried differs = by other b (test b) refl link received carried differs
+          alone : (other : Link) (b : Body) → IsLink other → receiver_of other ≡ s → carries other b ≡ true → same_link other link ≡ false → picked test b ≡ None
+          alone other b valid received carried differs = by other b (test b) refl valid received carried differs
 
       -- and as many
-      pub count-made : (test : Body → Bool) → ComesOn s k test → count_by test (taken_bodies (steps_at s (journal_at h s))) ≡ count_by test (made_on (Service k) (steps_at n (journal_at h n)))
+      pub count-made : (test : Body → Bool) → ComesOn s link test → count_by test (taken_bodies (steps_at s (journal_at h s))) ≡ count_by test (made_on link (steps_at n (journal_at h n)))
       count-made test comes =
-          sym (length-filter test (taken_bodies (steps_at s (journal_at h s)))) ∙ ap length (filter-made test comes) ∙ length-filter test (made_on (Service k) (steps_at n (journal_at h n)))
+          sym (length-filter test (taken_bodies (steps_at s (journal_at h s)))) ∙ ap length (filter-made test comes) ∙ length-filter test (made_on link (steps_at n (journal_at h n)))
 
       -- one that was taken was made
-      pub member-made : (test : Body → Bool) → ComesOn s k test → (b : Body) → test b ≡ true → Member b (taken_bodies (steps_at s (journal_at h s))) → Member b (made_on (Service k) (steps_at n (journal_at h n)))
+      pub member-made : (test : Body → Bool) → ComesOn s link test → (b : Body) → test b ≡ true → Member b (taken_bodies (steps_at s (journal_at h s))) → Member b (made_on link (steps_at n (journal_at h n)))
       member-made test comes b passes here =
-          member-filter test b (made_on (Service k) (steps_at n (journal_at h n)))
+          member-filter test b (made_on link (steps_at n (journal_at h n)))
           (subst (λ l. Member b l) (filter-made test comes) (member-kept test b (taken_bodies (steps_at s (journal_at h s))) here passes))

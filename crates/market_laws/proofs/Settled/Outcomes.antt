@@ -8,7 +8,7 @@ use Rattle.market_events.specs.declared.bodies.Body.{Body}
 use Rattle.market_events.specs.declared.bodies.Body.TheVariants as body
 use Rattle.market_events.specs.declared.bodies.Ending.TheVariants as ending
 use Rattle.market_events.specs.declared.bodies.PayRule.{PayRule}
-use Rattle.market_events.specs.declared.links.TheConstants.{ORDER_TO_PAYMENT, PAYMENT_TO_STOCK}
+use Rattle.market_events.specs.declared.links.TheConstants.{ORDER_TO_PAYMENT, PAYMENT_TO_STOCK, STOCK_TO_ORDER, ORDER_TO_SELLER, ORDER_TO_CART, PAYMENT_TO_ORDER}
 use Rattle.market_events.specs.declared.replies.Reply.TheVariants as reply
 use Rattle.market_events.specs.declared.replies.UndoneRule.TheVariants as undone
 use Rattle.market_events.specs.Links.{cart_node, stock_node, order_node, payment_node, seller_node}
@@ -32,31 +32,31 @@ use Rattle.market_laws.proofs.Views.GatheredOnLinks.{gathered-made}
 use Rattle.market_laws.proofs.Settled.Passing.{single}
 use Rattle.market_laws.proofs.Runs.PaymentOutcomes.{AreSettled, payments-settled, failed_in, Picks, paid-picked, unpaid-others}
 use Rattle.market_laws.proofs.Runs.Gathered.{invoices-held, ended_unpaid, ends-failed, told_unpaid, told-unpaid}
-use Rattle.market_laws.proofs.Runs.Orders.{invoices-6}
-use Rattle.market_laws.proofs.Runs.Payments.{invoices-once, payments-9, settles-is-invoices}
+use Rattle.market_laws.proofs.Runs.Orders.{invoices-to-seller}
+use Rattle.market_laws.proofs.Runs.Payments.{invoices-once, payments-to-order, settles-is-invoices}
 use Rattle.market_laws.proofs.Settled.Counts.{settles-parts}
 use Rattle.market_laws.proofs.Settled.Links.{ComesOn}
 use Rattle.market_laws.proofs.Settled.Ways.{counted}
 
 -- where these bodies come in
-held-orders : ComesOn order_node 4 (λ b. is_some (reservation_in b))
+held-orders : ComesOn order_node STOCK_TO_ORDER (λ b. is_some (reservation_in b))
 held-orders (body.StockConfirmed checkout customer lines) passes = (tt, refl)
 held-orders other passes = cc
 
-invoice-payments : ComesOn payment_node 5 (λ b. is_some (invoice_in b))
+invoice-payments : ComesOn payment_node ORDER_TO_PAYMENT (λ b. is_some (invoice_in b))
 invoice-payments (body.Invoice checkout customer lines total) passes = (tt, refl)
 invoice-payments other passes = cc
 
-invoice-sellers : ComesOn seller_node 6 (λ b. is_some (invoice_in b))
+invoice-sellers : ComesOn seller_node ORDER_TO_SELLER (λ b. is_some (invoice_in b))
 invoice-sellers (body.Invoice checkout customer lines total) passes = (tt, refl)
 invoice-sellers other passes = cc
 
-end-cart : ComesOn cart_node 7 (λ b. is_some (ended_unpaid b))
+end-cart : ComesOn cart_node ORDER_TO_CART (λ b. is_some (ended_unpaid b))
 end-cart (body.Ended checkout (ending.Undone rule)) passes = (tt, refl)
 end-cart (body.Ended checkout (ending.Whole total)) passes = cc
 end-cart other passes = cc
 
-failed-orders : ComesOn order_node 9 (λ b. is_some (failed_in b))
+failed-orders : ComesOn order_node PAYMENT_TO_ORDER (λ b. is_some (failed_in b))
 failed-orders (body.Failed checkout customer rule) passes = (tt, refl)
 failed-orders other passes = cc
 
@@ -91,18 +91,18 @@ module _ (h : Histories) where
 
 module _ (h : Histories) (lawful : IsLawful h) (settled : IsSettled h) where
   pub orders-held : checkouts_taken (service_steps h Role.Order) ≡ held h
-  orders-held = gathered-made h lawful settled order_node stock_node 4 (omega arith) (omega arith) (omega arith) refl refl reservation_in held-orders
+  orders-held = gathered-made h lawful settled order_node stock_node STOCK_TO_ORDER (omega arith) (omega arith) (omega arith) refl refl reservation_in held-orders
 
   orders-invoiced : filter_map invoice_in (made_on ORDER_TO_PAYMENT (service_steps h Role.Order)) ≡ held h
   orders-invoiced = invoices-held (service_steps h Role.Order) (steps-run order_node (journal_at h order_node)) ∙ orders-held
 
   payments-held : filter_map invoice_in (taken_bodies (service_steps h Role.Payment)) ≡ held h
-  payments-held = gathered-made h lawful settled payment_node order_node 5 (omega arith) (omega arith) (omega arith) refl refl invoice_in invoice-payments ∙ orders-invoiced
+  payments-held = gathered-made h lawful settled payment_node order_node ORDER_TO_PAYMENT (omega arith) (omega arith) (omega arith) refl refl invoice_in invoice-payments ∙ orders-invoiced
 
   pub sellers-held : invoices_taken (service_steps h Role.Seller) ≡ held h
   sellers-held =
-      gathered-made h lawful settled seller_node order_node 6 (omega arith) (omega arith) (omega arith) refl refl invoice_in invoice-sellers
-      ∙ ap (filter_map invoice_in) (sym (invoices-6 (service_steps h Role.Order) (steps-run order_node (journal_at h order_node)))) ∙ orders-invoiced
+      gathered-made h lawful settled seller_node order_node ORDER_TO_SELLER (omega arith) (omega arith) (omega arith) refl refl invoice_in invoice-sellers
+      ∙ ap (filter_map invoice_in) (sym (invoices-to-seller (service_steps h Role.Order) (steps-run order_node (journal_at h order_node)))) ∙ orders-invoiced
 
   pub settled-held : AreSettled (held h) (settling h)
   settled-held = subst (λ rs. AreSettled rs (settling h)) payments-held (payments-settled (service_steps h Role.Payment) (steps-run payment_node (journal_at h payment_node)))
@@ -138,10 +138,10 @@ module _ (h : Histories) (lawful : IsLawful h) (settled : IsSettled h) where
   told-failed : filter_map told_unpaid (made_in (service_steps h Role.Cart)) ≡ filter_map failed_in (settling h)
   told-failed =
       told-unpaid (service_steps h Role.Cart) (steps-run cart_node (journal_at h cart_node))
-      ∙ gathered-made h lawful settled cart_node order_node 7 (omega arith) (omega arith) (omega arith) refl refl ended_unpaid end-cart
+      ∙ gathered-made h lawful settled cart_node order_node ORDER_TO_CART (omega arith) (omega arith) (omega arith) refl refl ended_unpaid end-cart
       ∙ ends-failed (service_steps h Role.Order) (steps-run order_node (journal_at h order_node))
-      ∙ gathered-made h lawful settled order_node payment_node 9 (omega arith) (omega arith) (omega arith) refl refl failed_in failed-orders
-      ∙ ap (filter_map failed_in) (sym (payments-9 (service_steps h Role.Payment) (steps-run payment_node (journal_at h payment_node))))
+      ∙ gathered-made h lawful settled order_node payment_node PAYMENT_TO_ORDER (omega arith) (omega arith) (omega arith) refl refl failed_in failed-orders
+      ∙ ap (filter_map failed_in) (sym (payments-to-order (service_steps h Role.Payment) (steps-run payment_node (journal_at h payment_node))))
 
   pub unpaid-held : flat_map (unpaid_of h) (undone_at h) ≡ filter (λ (r : Reservation). not (was_paid h r)) (held h)
   unpaid-held =

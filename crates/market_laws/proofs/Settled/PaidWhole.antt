@@ -18,6 +18,7 @@ use Rattle.market_events.specs.Services.{reserves}
 use Rattle.market_events.specs.Steps.{taken_bodies}
 use Rattle.market_events.specs.Stocks.{Reservation, confirms}
 use Rattle.market_events.specs.WellFormed.{total_of}
+use Rattle.market_events.specs.declared.links.TheConstants.{CART_TO_STOCK}
 use Rattle.market_events.proofs.Values.Same.{same_id-self}
 use Rattle.market_history.specs.Blocks.{service_steps}
 use Rattle.market_history.specs.Book.{is_whole_reply, paid_in}
@@ -96,7 +97,7 @@ module _ (h : Histories) (lawful : IsLawful h) where
     asked_for =
         let stock = held-reserve (service_steps h Role.Stock) (steps-run stock_node (journal_at h stock_node)) c customer lines (payment-traced h lawful settled c customer lines total here).held in
         sent-asked (service_steps h Role.Cart) (steps-run cart_node (journal_at h cart_node)) c customer lines
-        (member-made h lawful settled stock_node cart_node 2 (omega arith) (omega arith) (omega arith) refl refl (reserves c) (reserves-come c) (body.Reserve c customer lines) (same_id-self c) stock)
+        (member-made h lawful settled stock_node cart_node CART_TO_STOCK (omega arith) (omega arith) (omega arith) refl refl (reserves c) (reserves-come c) (body.Reserve c customer lines) (same_id-self c) stock)
 
     paid_once : 1 ≤ count_by (confirms c) (settling h)
     paid_once = counted (confirms c) (body.Confirmed c customer lines total) (settling h) here (same_id-self c)

@@ -7,7 +7,7 @@ use Rattle.std.proofs.lemmas.List.Sums.{length-filter}
 use Rattle.market_amounts.specs.declared.keys.RequestId.{RequestId}
 use Rattle.market_events.specs.declared.bodies.Body.{Body}
 use Rattle.market_events.specs.declared.bodies.Body.TheVariants as body
-use Rattle.market_events.specs.declared.links.TheConstants.{ORDER_TO_PAYMENT, PAYMENT_TO_STOCK}
+use Rattle.market_events.specs.declared.links.TheConstants.{ORDER_TO_PAYMENT, PAYMENT_TO_STOCK, ORDER_TO_SELLER, PAYMENT_TO_SELLER, SHIPMENT_TO_SELLER}
 use Rattle.market_events.specs.declared.replies.OrderStatus.TheVariants as status
 use Rattle.market_events.specs.Links.{order_node, payment_node, shipment_node, seller_node}
 use Rattle.market_events.specs.Orders.{items_in, items_taken, ships}
@@ -24,32 +24,32 @@ use Rattle.market_history.specs.Outstanding.{IsSettled}
 use Rattle.market_laws.specs.Runs.{is_delivery}
 use Rattle.market_laws.proofs.Origins.Made.{steps-run}
 use Rattle.market_laws.proofs.Settled.Passing.{joined-passing, filter-joined}
-use Rattle.market_laws.proofs.Runs.Orders.{invoices-6}
-use Rattle.market_laws.proofs.Runs.Payments.{payments-12}
-use Rattle.market_laws.proofs.Runs.Shipments.{shipments-14, deliveries-15, shipped-is}
+use Rattle.market_laws.proofs.Runs.Orders.{invoices-to-seller}
+use Rattle.market_laws.proofs.Runs.Payments.{payments-to-seller}
+use Rattle.market_laws.proofs.Runs.Shipments.{shipments-to-seller, deliveries-to-customer, shipped-is}
 use Rattle.market_laws.proofs.Runs.SellerEntries.{entries_in, entries-invoiced}
 use Rattle.market_laws.proofs.Runs.SellerStatuses.{marked-each}
 use Rattle.market_laws.proofs.Settled.Counts.{steps_now, paid-shipments}
 use Rattle.market_laws.proofs.Settled.Links.{ComesOn, count-made, filter-made}
 
 -- where each kind comes in
-invoices-seller : (id : RequestId) → ComesOn seller_node 6 (invoices id)
+invoices-seller : (id : RequestId) → ComesOn seller_node ORDER_TO_SELLER (invoices id)
 invoices-seller id (body.Invoice checkout customer lines total) passes = (tt, refl)
 invoices-seller id other passes = cc
 
-confirms-seller : (id : RequestId) → ComesOn seller_node 12 (confirms id)
+confirms-seller : (id : RequestId) → ComesOn seller_node PAYMENT_TO_SELLER (confirms id)
 confirms-seller id (body.Confirmed checkout customer lines total) passes = (tt, refl)
 confirms-seller id other passes = cc
 
-fails-seller : (id : RequestId) → ComesOn seller_node 12 (fails id)
+fails-seller : (id : RequestId) → ComesOn seller_node PAYMENT_TO_SELLER (fails id)
 fails-seller id (body.Failed checkout customer rule) passes = (tt, refl)
 fails-seller id other passes = cc
 
-ships-seller : (id : RequestId) → ComesOn seller_node 14 (ships id)
+ships-seller : (id : RequestId) → ComesOn seller_node SHIPMENT_TO_SELLER (ships id)
 ships-seller id (body.Shipped checkout) passes = (tt, refl)
 ships-seller id other passes = cc
 
-deliveries-seller : ComesOn seller_node 14 is_delivery
+deliveries-seller : ComesOn seller_node SHIPMENT_TO_SELLER is_delivery
 deliveries-seller (body.Delivered items) passes = (tt, refl)
 deliveries-seller other passes = cc
 
@@ -71,31 +71,31 @@ module _ (h : Histories) (lawful : IsLawful h) (settled : IsSettled h) where
       let run = steps-run shipment_node (journal_at h shipment_node) in
       joined-passing is_delivery items_in no_items (taken_bodies (steps_now h lawful seller_node))
       ∙ ap (flat_map items_in)
-      (filter-made h lawful settled seller_node shipment_node 14 (omega arith) (omega arith) (omega arith) refl refl is_delivery deliveries-seller
-      ∙ ap (filter is_delivery) (sym (shipments-14 steps run)) ∙ sym (deliveries-15 steps run))
+      (filter-made h lawful settled seller_node shipment_node SHIPMENT_TO_SELLER (omega arith) (omega arith) (omega arith) refl refl is_delivery deliveries-seller
+      ∙ ap (filter is_delivery) (sym (shipments-to-seller steps run)) ∙ sym (deliveries-to-customer steps run))
 
   module _ (c : RequestId) where
     pub seller-invoices : filter (invoices c) (taken_bodies (steps_now h lawful seller_node)) ≡ filter (invoices c) (made_on ORDER_TO_PAYMENT (steps_now h lawful order_node))
     seller-invoices =
-        filter-made h lawful settled seller_node order_node 6 (omega arith) (omega arith) (omega arith) refl refl (invoices c) (invoices-seller c)
-        ∙ ap (filter (invoices c)) (sym (invoices-6 (steps_now h lawful order_node) (steps-run order_node (journal_at h order_node))))
+        filter-made h lawful settled seller_node order_node ORDER_TO_SELLER (omega arith) (omega arith) (omega arith) refl refl (invoices c) (invoices-seller c)
+        ∙ ap (filter (invoices c)) (sym (invoices-to-seller (steps_now h lawful order_node) (steps-run order_node (journal_at h order_node))))
 
     pub seller-paid : count_by (confirms c) (taken_bodies (steps_now h lawful seller_node)) ≡ count_by (confirms c) (made_on PAYMENT_TO_STOCK (steps_now h lawful payment_node))
     seller-paid =
-        count-made h lawful settled seller_node payment_node 12 (omega arith) (omega arith) (omega arith) refl refl (confirms c) (confirms-seller c)
-        ∙ ap (count_by (confirms c)) (sym (payments-12 (steps_now h lawful payment_node) (steps-run payment_node (journal_at h payment_node))))
+        count-made h lawful settled seller_node payment_node PAYMENT_TO_SELLER (omega arith) (omega arith) (omega arith) refl refl (confirms c) (confirms-seller c)
+        ∙ ap (count_by (confirms c)) (sym (payments-to-seller (steps_now h lawful payment_node) (steps-run payment_node (journal_at h payment_node))))
 
     pub seller-failed : count_by (fails c) (taken_bodies (steps_now h lawful seller_node)) ≡ count_by (fails c) (made_on PAYMENT_TO_STOCK (steps_now h lawful payment_node))
     seller-failed =
-        count-made h lawful settled seller_node payment_node 12 (omega arith) (omega arith) (omega arith) refl refl (fails c) (fails-seller c)
-        ∙ ap (count_by (fails c)) (sym (payments-12 (steps_now h lawful payment_node) (steps-run payment_node (journal_at h payment_node))))
+        count-made h lawful settled seller_node payment_node PAYMENT_TO_SELLER (omega arith) (omega arith) (omega arith) refl refl (fails c) (fails-seller c)
+        ∙ ap (count_by (fails c)) (sym (payments-to-seller (steps_now h lawful payment_node) (steps-run payment_node (journal_at h payment_node))))
 
     pub seller-shipped : count_by (ships c) (taken_bodies (steps_now h lawful seller_node)) ≡ count_by (confirms c) (made_on PAYMENT_TO_STOCK (steps_now h lawful payment_node))
     seller-shipped =
         let steps = steps_now h lawful shipment_node in
         let run = steps-run shipment_node (journal_at h shipment_node) in
-        count-made h lawful settled seller_node shipment_node 14 (omega arith) (omega arith) (omega arith) refl refl (ships c) (ships-seller c)
-        ∙ ap (count_by (ships c)) (sym (shipments-14 steps run)) ∙ shipped-is steps run c ∙ paid-shipments h lawful settled c
+        count-made h lawful settled seller_node shipment_node SHIPMENT_TO_SELLER (omega arith) (omega arith) (omega arith) refl refl (ships c) (ships-seller c)
+        ∙ ap (count_by (ships c)) (sym (shipments-to-seller steps run)) ∙ shipped-is steps run c ∙ paid-shipments h lawful settled c
 
     -- of entries that pass only where they are of the checkout, as many pass as the checkout's invoices add
     pub count-entries : (test : SellerChange → Bool) → ((e : SellerChange) → same_id e.checkout c ≡ false → test e ≡ false) → (seller : ℕ)

@@ -68,7 +68,7 @@ module _ (h : Histories) (lawful : IsLawful h) (settled : IsSettled h) (c : Requ
 
   -- an end that the cart took was made by orders
   ended_made : (b : Body) → finishes c b ≡ true → Member b (taken_bodies (steps_now h lawful cart_node)) → Member b (made_on ORDER_TO_CART (steps_now h lawful order_node))
-  ended_made b passes here = member-made h lawful settled cart_node order_node 7 (omega arith) (omega arith) (omega arith) refl refl (finishes c) (finishes-come c) b passes here
+  ended_made b passes here = member-made h lawful settled cart_node order_node ORDER_TO_CART (omega arith) (omega arith) (omega arith) refl refl (finishes c) (finishes-come c) b passes here
 
   -- a checkout that is whole is held and paid for, and its total is its order's
   pub counts-whole : (total : ℕ) → Member (body.Ended c (ending.Whole total)) (taken_bodies (steps_now h lawful cart_node)) → Counts h lawful c 1 1 0 × (total ≡ order_total (steps_now h lawful order_node) c)

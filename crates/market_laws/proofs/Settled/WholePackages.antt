@@ -14,7 +14,7 @@ use Rattle.market_events.specs.Requests.{same_id}
 use Rattle.market_events.specs.Shipments.{packages_in, packages}
 use Rattle.market_events.specs.Steps.{taken_bodies, made_on}
 use Rattle.market_events.specs.Stocks.{Reservation, reservation_in, confirms}
-use Rattle.market_events.specs.declared.links.TheConstants.{STOCK_TO_ORDER, PAYMENT_TO_STOCK}
+use Rattle.market_events.specs.declared.links.TheConstants.{STOCK_TO_ORDER, PAYMENT_TO_STOCK, PAYMENT_TO_SHIPMENT}
 use Rattle.market_events.proofs.Values.Lists.{any-none, map-map}
 use Rattle.market_events.proofs.Values.Same.{same_id-true, same_id-self}
 use Rattle.market_events.proofs.Runs.Shipments.{ShipmentRun-of}
@@ -29,7 +29,7 @@ use Rattle.market_laws.proofs.Origins.Made.{steps-run}
 use Rattle.market_laws.proofs.Settled.Passing.{filter-kept, single, joined-passing, filter-joined}
 use Rattle.market_laws.proofs.Fits.CopyMembers.{gathered-member}
 use Rattle.market_laws.proofs.Fits.RepliesOnce.{any-counted}
-use Rattle.market_laws.proofs.Runs.Payments.{payments-10}
+use Rattle.market_laws.proofs.Runs.Payments.{payments-to-shipment}
 use Rattle.market_laws.proofs.Settled.Counts.{steps_now, confirms-come, confirms-payment, paid-shipments}
 use Rattle.market_laws.proofs.Settled.Links.{filter-made}
 use Rattle.market_laws.proofs.Moments.ReservationSums.{count-held}
@@ -93,8 +93,8 @@ module _ (h : Histories) (lawful : IsLawful h) (settled : IsSettled h) (c : Requ
     payment_taken : filter (confirms c) (taken_bodies (steps_now h lawful shipment_node)) ≡ body.Confirmed c p.customer p.lines p.total ∷ []
     payment_taken =
         let made = made_on PAYMENT_TO_STOCK (steps_now h lawful payment_node) in
-        filter-made h lawful settled shipment_node payment_node 10 (omega arith) (omega arith) (omega arith) refl refl (confirms c) (confirms-come c)
-        ∙ ap (filter (confirms c)) (payments-10 (steps_now h lawful payment_node) (steps-run payment_node (journal_at h payment_node)))
+        filter-made h lawful settled shipment_node payment_node PAYMENT_TO_SHIPMENT (omega arith) (omega arith) (omega arith) refl refl (confirms c) (confirms-come c)
+        ∙ ap (filter (confirms c)) (payments-to-shipment (steps_now h lawful payment_node) (steps-run payment_node (journal_at h payment_node)))
         ∙ filter-kept (confirms c) is_payment (confirms-payment c) made
         ∙ single (confirms c) (body.Confirmed c p.customer p.lines p.total) made n.paid_is p.made (same_id-self c)
 

@@ -1,5 +1,5 @@
 -- Of a checkout that is whole: payment said once on each of its links that it was paid, with the total of its order, and no
--- failure (paid-8 to paid-12, unfailed-8 to unfailed-12). A payment is of what stock holds and of what orders invoiced
+-- failure (paid-to-stock to paid-to-seller, unfailed-to-stock to unfailed-to-seller). A payment is of what stock holds and of what orders invoiced
 -- (payment-traced).
 use Rattle.std.proofs.Common.{◌≡◌, ℕ, ◌==◌, true, List, count_by, eq-eqb, refl, ap, sym, ◌∙◌, subst, arith}
 use Rattle.market_amounts.specs.declared.keys.RequestId.{RequestId}
@@ -28,7 +28,7 @@ use Rattle.market_laws.proofs.Causes.FewOnLinks.{count-members}
 use Rattle.market_laws.proofs.Origins.Made.{steps-run}
 use Rattle.market_laws.proofs.Settled.Passing.{count-kept}
 use Rattle.market_laws.proofs.Runs.Orders.{invoice-held, total-held}
-use Rattle.market_laws.proofs.Runs.Payments.{payments-9, payments-10, payments-11, payments-12, confirmed-invoice}
+use Rattle.market_laws.proofs.Runs.Payments.{payments-to-order, payments-to-shipment, payments-to-customer, payments-to-seller, confirmed-invoice}
 use Rattle.market_laws.proofs.Settled.Counts.{steps_now, holds-come, invoices-come, confirms-payment}
 use Rattle.market_laws.proofs.Settled.Links.{member-made}
 use Rattle.market_laws.proofs.Settled.Ways.{Counts}
@@ -51,12 +51,12 @@ module _ (h : Histories) (lawful : IsLawful h) (settled : IsSettled h) (c : Requ
   pub payment-traced : (customer : ℕ) (lines : List PricedLine) (total : ℕ) → Member (body.Confirmed c customer lines total) (made_on PAYMENT_TO_STOCK (steps_now h lawful payment_node)) → Traced h lawful c customer lines total
   payment-traced customer lines total here =
       let taken = confirmed-invoice (steps_now h lawful payment_node) (steps-run payment_node (journal_at h payment_node)) c customer lines total here in
-      let invoiced = member-made h lawful settled payment_node order_node 5 (omega arith) (omega arith) (omega arith) refl refl (invoices c) (invoices-come c) (body.Invoice c customer lines total) (same_id-self c) taken in
+      let invoiced = member-made h lawful settled payment_node order_node ORDER_TO_PAYMENT (omega arith) (omega arith) (omega arith) refl refl (invoices c) (invoices-come c) (body.Invoice c customer lines total) (same_id-self c) taken in
       let held = invoice-held (steps_now h lawful order_node) (steps-run order_node (journal_at h order_node)) c customer lines total invoiced in
       record {
         total_is = held.1 ∙ sym (total-held (steps_now h lawful order_node) (steps-run order_node (journal_at h order_node)) c customer lines held.0);
         invoiced = invoiced;
-        held = member-made h lawful settled order_node stock_node 4 (omega arith) (omega arith) (omega arith) refl refl (holds_pieces c) (holds-come c) (body.StockConfirmed c customer lines) (same_id-self c) held.0;
+        held = member-made h lawful settled order_node stock_node STOCK_TO_ORDER (omega arith) (omega arith) (omega arith) refl refl (holds_pieces c) (holds-come c) (body.StockConfirmed c customer lines) (same_id-self c) held.0;
       }
 
   module _ (n : Counts h lawful c 1 1 0) (total : ℕ) (is : total ≡ order_total (steps_now h lawful order_node) c) where
@@ -68,8 +68,8 @@ module _ (h : Histories) (lawful : IsLawful h) (settled : IsSettled h) (c : Requ
         and_from (same_id checkout c) (t == total) passes (eq-eqb t total (traced.total_is ∙ sym is))
     pays_it other here passes = cc
 
-    pub paid-8 : IsPaidOn h PAYMENT_TO_STOCK c total
-    paid-8 = record {
+    pub paid-to-stock : IsPaidOn h PAYMENT_TO_STOCK c total
+    paid-to-stock = record {
       once = n.paid_is;
       so_much =
           let made = made_on PAYMENT_TO_STOCK (steps_now h lawful payment_node) in
@@ -80,34 +80,34 @@ module _ (h : Histories) (lawful : IsLawful h) (settled : IsSettled h) (c : Requ
 
     -- the same on a link on which the same was made
     same_paid : (k : Link) → made_on PAYMENT_TO_STOCK (steps_now h lawful payment_node) ≡ made_on k (steps_now h lawful payment_node) → IsPaidOn h k c total
-    same_paid k same = record { once = ap (count_by (confirms c)) (sym same) ∙ paid-8.once; so_much = ap (count_by (pays c total)) (sym same) ∙ paid-8.so_much }
+    same_paid k same = record { once = ap (count_by (confirms c)) (sym same) ∙ paid-to-stock.once; so_much = ap (count_by (pays c total)) (sym same) ∙ paid-to-stock.so_much }
 
-    pub paid-9 : IsPaidOn h PAYMENT_TO_ORDER c total
-    paid-9 = same_paid PAYMENT_TO_ORDER (payments-9 (steps_now h lawful payment_node) (steps-run payment_node (journal_at h payment_node)))
+    pub paid-to-order : IsPaidOn h PAYMENT_TO_ORDER c total
+    paid-to-order = same_paid PAYMENT_TO_ORDER (payments-to-order (steps_now h lawful payment_node) (steps-run payment_node (journal_at h payment_node)))
 
-    pub paid-11 : IsPaidOn h PAYMENT_TO_CUSTOMER c total
-    paid-11 = same_paid PAYMENT_TO_CUSTOMER (payments-11 (steps_now h lawful payment_node) (steps-run payment_node (journal_at h payment_node)))
+    pub paid-to-customer : IsPaidOn h PAYMENT_TO_CUSTOMER c total
+    paid-to-customer = same_paid PAYMENT_TO_CUSTOMER (payments-to-customer (steps_now h lawful payment_node) (steps-run payment_node (journal_at h payment_node)))
 
-    pub paid-12 : IsPaidOn h PAYMENT_TO_SELLER c total
-    paid-12 = same_paid PAYMENT_TO_SELLER (payments-12 (steps_now h lawful payment_node) (steps-run payment_node (journal_at h payment_node)))
+    pub paid-to-seller : IsPaidOn h PAYMENT_TO_SELLER c total
+    paid-to-seller = same_paid PAYMENT_TO_SELLER (payments-to-seller (steps_now h lawful payment_node) (steps-run payment_node (journal_at h payment_node)))
 
-    pub paid-10 : IsPaidOn h PAYMENT_TO_SHIPMENT c total
-    paid-10 =
+    pub paid-to-shipment : IsPaidOn h PAYMENT_TO_SHIPMENT c total
+    paid-to-shipment =
         let made = made_on PAYMENT_TO_STOCK (steps_now h lawful payment_node) in
-        let on = payments-10 (steps_now h lawful payment_node) (steps-run payment_node (journal_at h payment_node)) in
+        let on = payments-to-shipment (steps_now h lawful payment_node) (steps-run payment_node (journal_at h payment_node)) in
         record {
-          once = ap (count_by (confirms c)) on ∙ count-kept (confirms c) is_payment (confirms-payment c) made ∙ paid-8.once;
-          so_much = ap (count_by (pays c total)) on ∙ count-kept (pays c total) is_payment (pays-payment c total) made ∙ paid-8.so_much;
+          once = ap (count_by (confirms c)) on ∙ count-kept (confirms c) is_payment (confirms-payment c) made ∙ paid-to-stock.once;
+          so_much = ap (count_by (pays c total)) on ∙ count-kept (pays c total) is_payment (pays-payment c total) made ∙ paid-to-stock.so_much;
         }
 
-    pub unfailed-8 : made_by_payment h PAYMENT_TO_STOCK (fails c) ≡ 0
-    unfailed-8 = n.failed_is
+    pub unfailed-to-stock : made_by_payment h PAYMENT_TO_STOCK (fails c) ≡ 0
+    unfailed-to-stock = n.failed_is
 
-    pub unfailed-9 : made_by_payment h PAYMENT_TO_ORDER (fails c) ≡ 0
-    unfailed-9 = ap (count_by (fails c)) (sym (payments-9 (steps_now h lawful payment_node) (steps-run payment_node (journal_at h payment_node)))) ∙ n.failed_is
+    pub unfailed-to-order : made_by_payment h PAYMENT_TO_ORDER (fails c) ≡ 0
+    unfailed-to-order = ap (count_by (fails c)) (sym (payments-to-order (steps_now h lawful payment_node) (steps-run payment_node (journal_at h payment_node)))) ∙ n.failed_is
 
-    pub unfailed-11 : made_by_payment h PAYMENT_TO_CUSTOMER (fails c) ≡ 0
-    unfailed-11 = ap (count_by (fails c)) (sym (payments-11 (steps_now h lawful payment_node) (steps-run payment_node (journal_at h payment_node)))) ∙ n.failed_is
+    pub unfailed-to-customer : made_by_payment h PAYMENT_TO_CUSTOMER (fails c) ≡ 0
+    unfailed-to-customer = ap (count_by (fails c)) (sym (payments-to-customer (steps_now h lawful payment_node) (steps-run payment_node (journal_at h payment_node)))) ∙ n.failed_is
 
-    pub unfailed-12 : made_by_payment h PAYMENT_TO_SELLER (fails c) ≡ 0
-    unfailed-12 = ap (count_by (fails c)) (sym (payments-12 (steps_now h lawful payment_node) (steps-run payment_node (journal_at h payment_node)))) ∙ n.failed_is
+    pub unfailed-to-seller : made_by_payment h PAYMENT_TO_SELLER (fails c) ≡ 0
+    unfailed-to-seller = ap (count_by (fails c)) (sym (payments-to-seller (steps_now h lawful payment_node) (steps-run payment_node (journal_at h payment_node)))) ∙ n.failed_is

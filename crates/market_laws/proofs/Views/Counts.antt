@@ -7,7 +7,6 @@ use Rattle.std.proofs.lemmas.List.Sums.{sum_by-append, sum_by-cons}
 use Rattle.market_events.specs.declared.bodies.Body.{Body}
 use Rattle.market_events.specs.declared.events.Event.{Event}
 use Rattle.market_events.specs.declared.links.Link.{Link}
-use Rattle.market_events.specs.declared.links.Link.TheVariants.{Service}
 use Rattle.market_events.specs.Carried.{carries}
 use Rattle.market_events.specs.Links.{IsLink, sender_of, receiver_of, same_link}
 use Rattle.market_events.specs.Steps.{taken_bodies}
@@ -56,25 +55,25 @@ module _ (h : Histories) (lawful : IsLawful h) (n : ℕ) (lt : n < services) whe
   a_node : n < NODES
   a_node = omega arith
 
-  module _ (k : ℕ) (test : Body → Bool) (alone : Alone n test k) where
+  module _ (link : Link) (test : Body → Bool) (alone : Alone n test link) where
     -- nothing that passes comes on another link
-    elsewhere : (other : Link) (b : Body) → IsLink other → receiver_of other ≡ n → carries other b ≡ true → same_link other (Service k) ≡ false → picked test b ≡ None
+    elsewhere : (other : Link) (b : Body) → IsLink other → receiver_of other ≡ n → carries other b ≡ true → same_link other link ≡ false → picked test b ≡ None
     elsewhere other b on into carried differs = by (test b) refl
       where
         by : (t : Bool) → test b ≡ t → (if t then Some b else None) ≡ None
-        by true passes = let same : same_link other (Service k) ≡ true = ap (λ l. same_link l (Service k)) (alone other b on into carried passes) ∙ same_link-same (Service k) in cc
+        by true passes = let same : same_link other link ≡ true = ap (λ l. same_link l link) (alone other b on into carried passes) ∙ same_link-same link in cc
         by false passes = refl
 
     -- as many that pass were taken as came on the link
-    pub count-taken : count_by test (taken_bodies (steps_at n (journal_at h n))) ≡ count_by test (bodies_of (got (Service k) (journal_at h n)))
+    pub count-taken : count_by test (taken_bodies (steps_at n (journal_at h n))) ≡ count_by test (bodies_of (got link (journal_at h n)))
     count-taken =
         ap (count_by test) (all-taken h lawful n lt) ∙ count_picked test (bodies_of (events_taken (journal_at h n)))
-        ∙ ap length (gathered-got (picked test) n (Service k) (grown_at h n lawful a_node) elsewhere)
-        ∙ sym (count_picked test (bodies_of (got (Service k) (journal_at h n))))
+        ∙ ap length (gathered-got (picked test) n link (grown_at h n lawful a_node) elsewhere)
+        ∙ sym (count_picked test (bodies_of (got link (journal_at h n))))
 
     -- and one that passes was taken where one came on the link
-    pub any-taken : list_any test (taken_bodies (steps_at n (journal_at h n))) ≡ list_any test (bodies_of (got (Service k) (journal_at h n)))
-    any-taken = any-as_many test (taken_bodies (steps_at n (journal_at h n))) (bodies_of (got (Service k) (journal_at h n))) count-taken
+    pub any-taken : list_any test (taken_bodies (steps_at n (journal_at h n))) ≡ list_any test (bodies_of (got link (journal_at h n)))
+    any-taken = any-as_many test (taken_bodies (steps_at n (journal_at h n))) (bodies_of (got link (journal_at h n))) count-taken
 
 -- of a link, as many that pass were made as were taken and are outstanding
 pub made-parts : (h : Histories) → IsLawful h → (link : Link) → IsLink link → (test : Body → Bool)

@@ -6,27 +6,28 @@ use Rattle.market_events.specs.declared.roles.Role.{Role}
 use Rattle.market_events.specs.Standing.{Stands}
 use Rattle.basket_tests.specs.StockExamples.{four_pieces}
 use Rattle.stock_service.specs.Holds.{Holds}
+use Rattle.service_driving.proofs.Standing.{can_take, took}
 use Rattle.basket_tests.proofs.StockTesting as t
 use Rattle.basket_tests.proofs.stock_tests.paid_checkout.Goals as goal
 
 pub step-requires : goal.step-requires
 step-requires c =
-    t.can_take c.in_ok-stocks.stocks (four_pieces) (t.whole) (body.Reserve (an_id 7 8) 7 c.in_ok-pieces.pieces) c.in_ok-stocks.ensures t.follows_whole (ap (body.Reserve (an_id 7 8) 7) c.in_ok-pieces.ensures)
+    can_take c.in_ok-stocks.stocks (four_pieces) (t.whole) (body.Reserve (an_id 7 8) 7 c.in_ok-pieces.pieces) c.in_ok-stocks.ensures t.follows_whole (ap (body.Reserve (an_id 7 8) 7) c.in_ok-pieces.ensures)
 
 pub step-requires-2 : goal.step-requires-2
 step-requires-2 c =
-    let after_1 : Stands Role.Stock Holds c.step.new.service (four_pieces ++ (t.whole) ∷ []) = t.took c.in_ok-stocks.stocks c.step.new.service (four_pieces) (t.whole) (body.Reserve (an_id 7 8) 7 c.in_ok-pieces.pieces) c.in_ok-stocks.ensures t.follows_whole (ap (body.Reserve (an_id 7 8) 7) c.in_ok-pieces.ensures) c.in_ok-step.ensures.stands in
-    t.can_take c.step.new.service (four_pieces ++ (t.whole) ∷ []) (t.paid) (body.Confirmed (an_id 7 8) 7 c.in_ok-paid.paid 3100) after_1 t.follows_paid (ap (λ lines. body.Confirmed (an_id 7 8) 7 lines 3100) c.in_ok-paid.ensures)
+    let after_1 : Stands Role.Stock Holds c.step.new.service (four_pieces ++ (t.whole) ∷ []) = took c.in_ok-stocks.stocks c.step.new.service (four_pieces) (t.whole) (body.Reserve (an_id 7 8) 7 c.in_ok-pieces.pieces) c.in_ok-stocks.ensures t.follows_whole (ap (body.Reserve (an_id 7 8) 7) c.in_ok-pieces.ensures) c.in_ok-step.ensures.stands in
+    can_take c.step.new.service (four_pieces ++ (t.whole) ∷ []) (t.paid) (body.Confirmed (an_id 7 8) 7 c.in_ok-paid.paid 3100) after_1 t.follows_paid (ap (λ lines. body.Confirmed (an_id 7 8) 7 lines 3100) c.in_ok-paid.ensures)
 
 pub step-requires-3 : goal.step-requires-3
 step-requires-3 c =
-    let after_1 : Stands Role.Stock Holds c.step.new.service (four_pieces ++ (t.whole) ∷ []) = t.took c.in_ok-stocks.stocks c.step.new.service (four_pieces) (t.whole) (body.Reserve (an_id 7 8) 7 c.in_ok-pieces.pieces) c.in_ok-stocks.ensures t.follows_whole (ap (body.Reserve (an_id 7 8) 7) c.in_ok-pieces.ensures) c.in_ok-step.ensures.stands in
-    let after_2 : Stands Role.Stock Holds c.step-2.new.service (four_pieces ++ (t.whole) ∷ [] ++ (t.paid) ∷ []) = t.took c.step.new.service c.step-2.new.service (four_pieces ++ (t.whole) ∷ []) (t.paid) (body.Confirmed (an_id 7 8) 7 c.in_ok-paid.paid 3100) after_1 t.follows_paid (ap (λ lines. body.Confirmed (an_id 7 8) 7 lines 3100) c.in_ok-paid.ensures) c.in_ok-nothing.ensures.stands in
-    t.can_take c.step-2.new.service (four_pieces ++ (t.whole) ∷ [] ++ (t.paid) ∷ []) (t.mugs_are 1 0) c.asked-mug.result after_2 t.paid_mugs c.asked-mug.ensures
+    let after_1 : Stands Role.Stock Holds c.step.new.service (four_pieces ++ (t.whole) ∷ []) = took c.in_ok-stocks.stocks c.step.new.service (four_pieces) (t.whole) (body.Reserve (an_id 7 8) 7 c.in_ok-pieces.pieces) c.in_ok-stocks.ensures t.follows_whole (ap (body.Reserve (an_id 7 8) 7) c.in_ok-pieces.ensures) c.in_ok-step.ensures.stands in
+    let after_2 : Stands Role.Stock Holds c.step-2.new.service (four_pieces ++ (t.whole) ∷ [] ++ (t.paid) ∷ []) = took c.step.new.service c.step-2.new.service (four_pieces ++ (t.whole) ∷ []) (t.paid) (body.Confirmed (an_id 7 8) 7 c.in_ok-paid.paid 3100) after_1 t.follows_paid (ap (λ lines. body.Confirmed (an_id 7 8) 7 lines 3100) c.in_ok-paid.ensures) c.in_ok-nothing.ensures.stands in
+    can_take c.step-2.new.service (four_pieces ++ (t.whole) ∷ [] ++ (t.paid) ∷ []) (t.mugs_are 1 0) c.asked-mug.result after_2 t.paid_mugs c.asked-mug.ensures
 
 pub step-requires-4 : goal.step-requires-4
 step-requires-4 c =
-    let after_1 : Stands Role.Stock Holds c.step.new.service (four_pieces ++ (t.whole) ∷ []) = t.took c.in_ok-stocks.stocks c.step.new.service (four_pieces) (t.whole) (body.Reserve (an_id 7 8) 7 c.in_ok-pieces.pieces) c.in_ok-stocks.ensures t.follows_whole (ap (body.Reserve (an_id 7 8) 7) c.in_ok-pieces.ensures) c.in_ok-step.ensures.stands in
-    let after_2 : Stands Role.Stock Holds c.step-2.new.service (four_pieces ++ (t.whole) ∷ [] ++ (t.paid) ∷ []) = t.took c.step.new.service c.step-2.new.service (four_pieces ++ (t.whole) ∷ []) (t.paid) (body.Confirmed (an_id 7 8) 7 c.in_ok-paid.paid 3100) after_1 t.follows_paid (ap (λ lines. body.Confirmed (an_id 7 8) 7 lines 3100) c.in_ok-paid.ensures) c.in_ok-nothing.ensures.stands in
-    let after_3 : Stands Role.Stock Holds c.step-3.new.service (four_pieces ++ (t.whole) ∷ [] ++ (t.paid) ∷ [] ++ (t.mugs_are 1 0) ∷ []) = t.took c.step-2.new.service c.step-3.new.service (four_pieces ++ (t.whole) ∷ [] ++ (t.paid) ∷ []) (t.mugs_are 1 0) c.asked-mug.result after_2 t.paid_mugs c.asked-mug.ensures c.in_ok-mugs.ensures.stands in
-    t.can_take c.step-3.new.service (four_pieces ++ (t.whole) ∷ [] ++ (t.paid) ∷ [] ++ (t.mugs_are 1 0) ∷ []) (t.cups_are 0 0) c.asked-cup.result after_3 t.paid_cups c.asked-cup.ensures
+    let after_1 : Stands Role.Stock Holds c.step.new.service (four_pieces ++ (t.whole) ∷ []) = took c.in_ok-stocks.stocks c.step.new.service (four_pieces) (t.whole) (body.Reserve (an_id 7 8) 7 c.in_ok-pieces.pieces) c.in_ok-stocks.ensures t.follows_whole (ap (body.Reserve (an_id 7 8) 7) c.in_ok-pieces.ensures) c.in_ok-step.ensures.stands in
+    let after_2 : Stands Role.Stock Holds c.step-2.new.service (four_pieces ++ (t.whole) ∷ [] ++ (t.paid) ∷ []) = took c.step.new.service c.step-2.new.service (four_pieces ++ (t.whole) ∷ []) (t.paid) (body.Confirmed (an_id 7 8) 7 c.in_ok-paid.paid 3100) after_1 t.follows_paid (ap (λ lines. body.Confirmed (an_id 7 8) 7 lines 3100) c.in_ok-paid.ensures) c.in_ok-nothing.ensures.stands in
+    let after_3 : Stands Role.Stock Holds c.step-3.new.service (four_pieces ++ (t.whole) ∷ [] ++ (t.paid) ∷ [] ++ (t.mugs_are 1 0) ∷ []) = took c.step-2.new.service c.step-3.new.service (four_pieces ++ (t.whole) ∷ [] ++ (t.paid) ∷ []) (t.mugs_are 1 0) c.asked-mug.result after_2 t.paid_mugs c.asked-mug.ensures c.in_ok-mugs.ensures.stands in
+    can_take c.step-3.new.service (four_pieces ++ (t.whole) ∷ [] ++ (t.paid) ∷ [] ++ (t.mugs_are 1 0) ∷ []) (t.cups_are 0 0) c.asked-cup.result after_3 t.paid_cups c.asked-cup.ensures

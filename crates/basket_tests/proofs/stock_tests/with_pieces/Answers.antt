@@ -6,35 +6,36 @@ use Rattle.market_events.specs.declared.roles.Role.{Role}
 use Rattle.market_events.specs.Standing.{Stands}
 use Rattle.basket_tests.specs.StockExamples.{four_pieces}
 use Rattle.stock_service.specs.Holds.{Holds}
+use Rattle.service_driving.proofs.Standing.{can_take, took}
 use Rattle.basket_tests.proofs.StockTesting as t
 use Rattle.basket_tests.proofs.stock_tests.with_pieces.Goals as goal
 
 pub step-requires : goal.step-requires
 step-requires c =
-    t.can_take c.new-stocks.result ([]) (t.mug_created) c.in_ok-mug.mug (record { run = tt; held = c.new-stocks.ensures }) t.follows_mug c.in_ok-mug.ensures
+    can_take c.new-stocks.result ([]) (t.mug_created) c.in_ok-mug.mug (record { run = tt; held = c.new-stocks.ensures }) t.follows_mug c.in_ok-mug.ensures
 
 pub step-requires-2 : goal.step-requires-2
 step-requires-2 c =
-    let after_1 : Stands Role.Stock Holds c.step.new.service ([] ++ (t.mug_created) ∷ []) = t.took c.new-stocks.result c.step.new.service ([]) (t.mug_created) c.in_ok-mug.mug (record { run = tt; held = c.new-stocks.ensures }) t.follows_mug c.in_ok-mug.ensures c.in_ok-step.ensures.stands in
-    t.can_take c.step.new.service ([] ++ (t.mug_created) ∷ []) (t.cup_created) c.in_ok-cup.cup after_1 t.follows_cup c.in_ok-cup.ensures
+    let after_1 : Stands Role.Stock Holds c.step.new.service ([] ++ (t.mug_created) ∷ []) = took c.new-stocks.result c.step.new.service ([]) (t.mug_created) c.in_ok-mug.mug (record { run = tt; held = c.new-stocks.ensures }) t.follows_mug c.in_ok-mug.ensures c.in_ok-step.ensures.stands in
+    can_take c.step.new.service ([] ++ (t.mug_created) ∷ []) (t.cup_created) c.in_ok-cup.cup after_1 t.follows_cup c.in_ok-cup.ensures
 
 pub step-requires-3 : goal.step-requires-3
 step-requires-3 c =
-    let after_1 : Stands Role.Stock Holds c.step.new.service ([] ++ (t.mug_created) ∷ []) = t.took c.new-stocks.result c.step.new.service ([]) (t.mug_created) c.in_ok-mug.mug (record { run = tt; held = c.new-stocks.ensures }) t.follows_mug c.in_ok-mug.ensures c.in_ok-step.ensures.stands in
-    let after_2 : Stands Role.Stock Holds c.step-2.new.service ([] ++ (t.mug_created) ∷ [] ++ (t.cup_created) ∷ []) = t.took c.step.new.service c.step-2.new.service ([] ++ (t.mug_created) ∷ []) (t.cup_created) c.in_ok-cup.cup after_1 t.follows_cup c.in_ok-cup.ensures c.in_ok-step-2.ensures.stands in
-    t.can_take c.step-2.new.service ([] ++ (t.mug_created) ∷ [] ++ (t.cup_created) ∷ []) (stocks 1 mug 3) c.asked-mugs.result after_2 t.follows_mugs c.asked-mugs.ensures
+    let after_1 : Stands Role.Stock Holds c.step.new.service ([] ++ (t.mug_created) ∷ []) = took c.new-stocks.result c.step.new.service ([]) (t.mug_created) c.in_ok-mug.mug (record { run = tt; held = c.new-stocks.ensures }) t.follows_mug c.in_ok-mug.ensures c.in_ok-step.ensures.stands in
+    let after_2 : Stands Role.Stock Holds c.step-2.new.service ([] ++ (t.mug_created) ∷ [] ++ (t.cup_created) ∷ []) = took c.step.new.service c.step-2.new.service ([] ++ (t.mug_created) ∷ []) (t.cup_created) c.in_ok-cup.cup after_1 t.follows_cup c.in_ok-cup.ensures c.in_ok-step-2.ensures.stands in
+    can_take c.step-2.new.service ([] ++ (t.mug_created) ∷ [] ++ (t.cup_created) ∷ []) (stocks 1 mug 3) c.asked-mugs.result after_2 t.follows_mugs c.asked-mugs.ensures
 
 pub step-requires-4 : goal.step-requires-4
 step-requires-4 c =
-    let after_1 : Stands Role.Stock Holds c.step.new.service ([] ++ (t.mug_created) ∷ []) = t.took c.new-stocks.result c.step.new.service ([]) (t.mug_created) c.in_ok-mug.mug (record { run = tt; held = c.new-stocks.ensures }) t.follows_mug c.in_ok-mug.ensures c.in_ok-step.ensures.stands in
-    let after_2 : Stands Role.Stock Holds c.step-2.new.service ([] ++ (t.mug_created) ∷ [] ++ (t.cup_created) ∷ []) = t.took c.step.new.service c.step-2.new.service ([] ++ (t.mug_created) ∷ []) (t.cup_created) c.in_ok-cup.cup after_1 t.follows_cup c.in_ok-cup.ensures c.in_ok-step-2.ensures.stands in
-    let after_3 : Stands Role.Stock Holds c.step-3.new.service ([] ++ (t.mug_created) ∷ [] ++ (t.cup_created) ∷ [] ++ (stocks 1 mug 3) ∷ []) = t.took c.step-2.new.service c.step-3.new.service ([] ++ (t.mug_created) ∷ [] ++ (t.cup_created) ∷ []) (stocks 1 mug 3) c.asked-mugs.result after_2 t.follows_mugs c.asked-mugs.ensures c.in_ok-step-3.ensures.stands in
-    t.can_take c.step-3.new.service ([] ++ (t.mug_created) ∷ [] ++ (t.cup_created) ∷ [] ++ (stocks 1 mug 3) ∷ []) (stocks 2 cup 1) c.asked-cups.result after_3 t.follows_cups c.asked-cups.ensures
+    let after_1 : Stands Role.Stock Holds c.step.new.service ([] ++ (t.mug_created) ∷ []) = took c.new-stocks.result c.step.new.service ([]) (t.mug_created) c.in_ok-mug.mug (record { run = tt; held = c.new-stocks.ensures }) t.follows_mug c.in_ok-mug.ensures c.in_ok-step.ensures.stands in
+    let after_2 : Stands Role.Stock Holds c.step-2.new.service ([] ++ (t.mug_created) ∷ [] ++ (t.cup_created) ∷ []) = took c.step.new.service c.step-2.new.service ([] ++ (t.mug_created) ∷ []) (t.cup_created) c.in_ok-cup.cup after_1 t.follows_cup c.in_ok-cup.ensures c.in_ok-step-2.ensures.stands in
+    let after_3 : Stands Role.Stock Holds c.step-3.new.service ([] ++ (t.mug_created) ∷ [] ++ (t.cup_created) ∷ [] ++ (stocks 1 mug 3) ∷ []) = took c.step-2.new.service c.step-3.new.service ([] ++ (t.mug_created) ∷ [] ++ (t.cup_created) ∷ []) (stocks 1 mug 3) c.asked-mugs.result after_2 t.follows_mugs c.asked-mugs.ensures c.in_ok-step-3.ensures.stands in
+    can_take c.step-3.new.service ([] ++ (t.mug_created) ∷ [] ++ (t.cup_created) ∷ [] ++ (stocks 1 mug 3) ∷ []) (stocks 2 cup 1) c.asked-cups.result after_3 t.follows_cups c.asked-cups.ensures
 
 pub returns : goal.returns
 returns c =
-    let after_1 : Stands Role.Stock Holds c.step.new.service ([] ++ (t.mug_created) ∷ []) = t.took c.new-stocks.result c.step.new.service ([]) (t.mug_created) c.in_ok-mug.mug (record { run = tt; held = c.new-stocks.ensures }) t.follows_mug c.in_ok-mug.ensures c.in_ok-step.ensures.stands in
-    let after_2 : Stands Role.Stock Holds c.step-2.new.service ([] ++ (t.mug_created) ∷ [] ++ (t.cup_created) ∷ []) = t.took c.step.new.service c.step-2.new.service ([] ++ (t.mug_created) ∷ []) (t.cup_created) c.in_ok-cup.cup after_1 t.follows_cup c.in_ok-cup.ensures c.in_ok-step-2.ensures.stands in
-    let after_3 : Stands Role.Stock Holds c.step-3.new.service ([] ++ (t.mug_created) ∷ [] ++ (t.cup_created) ∷ [] ++ (stocks 1 mug 3) ∷ []) = t.took c.step-2.new.service c.step-3.new.service ([] ++ (t.mug_created) ∷ [] ++ (t.cup_created) ∷ []) (stocks 1 mug 3) c.asked-mugs.result after_2 t.follows_mugs c.asked-mugs.ensures c.in_ok-step-3.ensures.stands in
-    let after_4 : Stands Role.Stock Holds c.step-4.new.service ([] ++ (t.mug_created) ∷ [] ++ (t.cup_created) ∷ [] ++ (stocks 1 mug 3) ∷ [] ++ (stocks 2 cup 1) ∷ []) = t.took c.step-3.new.service c.step-4.new.service ([] ++ (t.mug_created) ∷ [] ++ (t.cup_created) ∷ [] ++ (stocks 1 mug 3) ∷ []) (stocks 2 cup 1) c.asked-cups.result after_3 t.follows_cups c.asked-cups.ensures c.in_ok-step-4.ensures.stands in
+    let after_1 : Stands Role.Stock Holds c.step.new.service ([] ++ (t.mug_created) ∷ []) = took c.new-stocks.result c.step.new.service ([]) (t.mug_created) c.in_ok-mug.mug (record { run = tt; held = c.new-stocks.ensures }) t.follows_mug c.in_ok-mug.ensures c.in_ok-step.ensures.stands in
+    let after_2 : Stands Role.Stock Holds c.step-2.new.service ([] ++ (t.mug_created) ∷ [] ++ (t.cup_created) ∷ []) = took c.step.new.service c.step-2.new.service ([] ++ (t.mug_created) ∷ []) (t.cup_created) c.in_ok-cup.cup after_1 t.follows_cup c.in_ok-cup.ensures c.in_ok-step-2.ensures.stands in
+    let after_3 : Stands Role.Stock Holds c.step-3.new.service ([] ++ (t.mug_created) ∷ [] ++ (t.cup_created) ∷ [] ++ (stocks 1 mug 3) ∷ []) = took c.step-2.new.service c.step-3.new.service ([] ++ (t.mug_created) ∷ [] ++ (t.cup_created) ∷ []) (stocks 1 mug 3) c.asked-mugs.result after_2 t.follows_mugs c.asked-mugs.ensures c.in_ok-step-3.ensures.stands in
+    let after_4 : Stands Role.Stock Holds c.step-4.new.service ([] ++ (t.mug_created) ∷ [] ++ (t.cup_created) ∷ [] ++ (stocks 1 mug 3) ∷ [] ++ (stocks 2 cup 1) ∷ []) = took c.step-3.new.service c.step-4.new.service ([] ++ (t.mug_created) ∷ [] ++ (t.cup_created) ∷ [] ++ (stocks 1 mug 3) ∷ []) (stocks 2 cup 1) c.asked-cups.result after_3 t.follows_cups c.asked-cups.ensures c.in_ok-step-4.ensures.stands in
     after_4

@@ -1,6 +1,6 @@
 -- Each clause is a law of RunsProduct.
-use Rattle.market_laws.proofs.Runs.Products.{changes-0, change-fits}
+use Rattle.market_laws.proofs.Runs.Products.{changes-to-cart, change-fits}
 use Rattle.market_laws.proofs.laws.product_runs.Goals as goal
 
 pub returns : goal.returns
-returns c = record { carts_told = changes-0; changes_fit = change-fits }
+returns c = record { carts_told = changes-to-cart; changes_fit = change-fits }

@@ -1,4 +1,4 @@
-use Rattle.std.proofs.Common.{◌≡◌, ◌+◌, ◌∷◌, drop, ap, sym, ◌∙◌}
+use Rattle.std.proofs.Common.{◌+◌, drop, ap, sym, ◌∙◌}
 use Rattle.std.specs.List.{slice_index}
 use Rattle.std.proofs.lemmas.List.{drop_all}
 use Rattle.market_node.specs.Cores.{CoreState}

@@ -1,4 +1,4 @@
-use Rattle.std.proofs.Common.{◌≡◌, ◌+◌, ◌<◌, None, length, refl, ap, sym, ◌∙◌, arith}
+use Rattle.std.proofs.Common.{◌≡◌, ◌<◌, None, length, refl, ap, sym, ◌∙◌, arith}
 use Rattle.std.specs.List.{slice_index_or, slice_set}
 use Rattle.market_events.specs.Links.{sender_of}
 use Rattle.market_rings.specs.NodeEnds.{NodeEnds, counts_taken, counts_waiting, out_at}

@@ -1,11 +1,10 @@
-use Rattle.std.proofs.Common.{◌≡◌, None, map, ap, subst, sym, ◌∙◌}
+use Rattle.std.proofs.Common.{◌≡◌, None, map, ap, sym, ◌∙◌}
 use Rattle.std.proofs.Math.Seq.{map-set_same}
 use Rattle.market_events.specs.Links.{receiver_of}
 use Rattle.market_links.specs.Slots.{slot_into}
 use Rattle.market_rings.specs.declared.fates.Way.TheVariants.{Ack}
-use Rattle.market_rings.specs.Fates.{FatesLeft, fates_at, with_fates}
+use Rattle.market_rings.specs.Fates.{FatesLeft, fates_at}
 use Rattle.market_rings.specs.NodeEnds.{NodeEnds, HaveSentCounts}
-use Rattle.market_rings.specs.Pushes.{fates_left}
 use Rattle.market_turns.specs.Sent.{events_in}
 use Rattle.market_turns.specs.Turns.{counts_sent}
 use Rattle.market_turns.proofs.Windows.{sent_link, none_left}

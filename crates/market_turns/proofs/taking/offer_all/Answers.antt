@@ -1,5 +1,4 @@
 use Rattle.std.proofs.Common.{◌≡◌, ◌+◌, ◌∷◌, drop, ap, sym, ◌∙◌}
-use Rattle.std.specs.List.{slice_index_or}
 use Rattle.std.proofs.lemmas.List.{drop_all}
 use Rattle.market_events.specs.declared.events.Event.{Event}
 use Rattle.market_turns.proofs.Offers.{offered_head, offered_next, offered_last}

@@ -1,8 +1,6 @@
-use Rattle.std.proofs.Common.{◌≡◌, ◌+◌, ◌<◌, ◌≤◌, ◌∷◌, ◌++◌, None, List, length, drop, ap, refl, sym, ◌∙◌, arith}
+use Rattle.std.proofs.Common.{◌≡◌, ◌+◌, ◌<◌, ◌++◌, None, List, length, drop, ap, refl, sym, ◌∙◌, arith}
 use Rattle.std.specs.List.{flat_map, slice_index_or, slice_set}
 use Rattle.market_events.specs.declared.events.Event.{Event}
-use Rattle.market_node.specs.Cores.{CoreState, with_entries}
-use Rattle.market_node.specs.Offered.{CanTakeAll, with_all_offered}
 use Rattle.market_rings.specs.NodeEnds.{NodeEnds, events_taken, events_waiting, in_at}
 use Rattle.market_turns.specs.Turns.{arrivals}
 use Rattle.market_turns.proofs.Offers.{offered_can, offered_front}

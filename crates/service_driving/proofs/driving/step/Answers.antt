@@ -1,4 +1,4 @@
-use Rattle.market_events.proofs.Runs.Standing.{stands_on, stands_still}
+use Rattle.market_events.proofs.Runs.Standing.{stands_on}
 use Rattle.service_driving.proofs.driving.step.Goals as goal
 
 pub returns-clause-stands : goal.returns-clause-stands

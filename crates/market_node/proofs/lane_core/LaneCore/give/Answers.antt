@@ -3,6 +3,7 @@ use denote.Enum.Bare.{same_true}
 use Rattle.market_events.specs.declared.bodies.Body.TheVariants as body
 use Rattle.market_events.specs.declared.events.What.TheVariants.{Given}
 use Rattle.market_events.specs.declared.links.Link.{Link}
+use Rattle.market_events.specs.declared.roles.TheConstants.{SERVICES}
 use Rattle.market_history.specs.contracts.schedule.Give.{the_type}
 use Rattle.market_history.specs.Blocks.{Out, with_out, with_what}
 use Rattle.market_history.specs.Journals.{IsLane}
@@ -44,4 +45,4 @@ returns-clause-asked c asked =
     ∙ ap (λ (s : CoreState). with_entries s (with_out (with_what s.entries (Given c.args.request.now)) (Out.Makes c.asking_link.result (body.Asked c.args.request.now)))) c.self.view_is
     ∙ ap (λ (to : Link). with_entries c.args.self.now (with_out (with_what c.args.self.now.entries (Given c.args.request.now)) (Out.Makes to (body.Asked c.args.request.now)))) c.asking_link.ensures
     ∙ sym (ap (λ es. with_entries c.args.self.now es)
-    (grow-given c.args.self.now.node c.args.self.now.entries c.args.request.now (subst (λ (s : CoreState). 8 ≤ s.node) c.self.view_is c.self.invariant.lane.0)))
+    (grow-given c.args.self.now.node c.args.self.now.entries c.args.request.now (subst (λ (s : CoreState). SERVICES ≤ s.node) c.self.view_is c.self.invariant.lane.0)))

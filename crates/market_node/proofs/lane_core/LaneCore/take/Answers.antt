@@ -8,6 +8,7 @@ use Rattle.market_events.specs.declared.replies.Reply.{Reply}
 use Rattle.market_events.specs.contracts.events.Offer.{the_type}
 use Rattle.market_events.specs.Carried.{carries}
 use Rattle.market_events.specs.Offers.{offer_of}
+use Rattle.market_events.specs.declared.roles.TheConstants.{SERVICES}
 use Rattle.market_history.specs.Blocks.{Out, with_out, with_what}
 use Rattle.market_history.specs.Causality.{events_taken}
 use Rattle.market_history.specs.Journals.{IsLane}
@@ -59,5 +60,5 @@ returns-clause-taken c due =
     ∙ ap (λ (s : CoreState). with_entries s (with_out (with_what s.entries (Taken c.in_ok-taken.taken)) (Out.Answers c.in-Some.id c.in_ok-reply.reply))) c.self.view_is
     ∙ ap (λ (e : Event). with_entries c.args.self.now (with_out (with_what c.args.self.now.entries (Taken e)) (Out.Answers c.in-Some.id c.in_ok-reply.reply))) c.in_ok-taken.ensures
     ∙ sym (ap (λ es. with_entries c.args.self.now es)
-    (grow-told c.args.self.now.node c.args.self.now.entries c.args.event.now c.in-Some.id c.in_ok-reply.reply (subst (λ (s : CoreState). 8 ≤ s.node) c.self.view_is c.self.invariant.lane.0)
+    (grow-told c.args.self.now.node c.args.self.now.entries c.args.event.now c.in-Some.id c.in_ok-reply.reply (subst (λ (s : CoreState). SERVICES ≤ s.node) c.self.view_is c.self.invariant.lane.0)
     (c.in-Some.ensures.some ∙ ap (λ (r : Reply). body.Told c.in-Some.id r) (sym c.in_ok-reply.ensures))))

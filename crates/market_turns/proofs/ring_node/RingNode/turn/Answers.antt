@@ -1,4 +1,4 @@
-use Rattle.std.proofs.Common.{◌≡◌, subst, sym}
+use Rattle.std.proofs.Common.{subst, sym}
 use Rattle.market_node.specs.Cores.{CoreState}
 use Rattle.market_node.specs.Offered.{CanTakeAll}
 use Rattle.market_turns.specs.Turns.{NodeState, CanTurn, HasTurned, arrivals}
@@ -13,7 +13,7 @@ take_events-requires g c =
     c.args.fates.now c.send_windows.new.fates c.send_counts.new.fates (g.C.Core.state c.note_counts.new.core) (g.C.Core.state c.note_counts.new.core)
     c.in_ok-send_windows.ensures.sent c.in_ok-send_windows.ensures.ins c.in_ok-send_windows.ensures.ack
     c.in_ok-send_counts.ensures.sent c.in_ok-send_counts.ensures.outs c.in_ok-send_counts.ensures.carry c.in_ok-send_counts.ensures.waiting
-    c.in_ok-note_counts.ensures.popped c.in_ok-note_counts.ensures.same c.in_ok-note_counts.ensures.noted
+    c.in_ok-note_counts.ensures.popped c.in_ok-note_counts.ensures.same c.in_ok-note_counts.ensures.slots c.in_ok-note_counts.ensures.noted
     in
     subst (λ es. CanTakeAll can (g.C.Core.state c.note_counts.new.core).node (g.C.Core.state c.note_counts.new.core).entries es) (sym still)
     (subst (λ (s : CoreState). CanTakeAll can s.node s.entries (arrivals c.self.inside.ends)) (sym c.in_ok-note_counts.ensures.same) takes.takes)
@@ -25,5 +25,5 @@ returns g c =
     c.args.fates.now c.send_windows.new.fates c.send_counts.new.fates (g.C.Core.state c.note_counts.new.core) (g.C.Core.state c.take_events.new.core)
     c.in_ok-send_windows.ensures.sent c.in_ok-send_windows.ensures.ins c.in_ok-send_windows.ensures.ack
     c.in_ok-send_counts.ensures.sent c.in_ok-send_counts.ensures.outs c.in_ok-send_counts.ensures.carry c.in_ok-send_counts.ensures.waiting
-    c.in_ok-note_counts.ensures.popped c.in_ok-note_counts.ensures.same c.in_ok-note_counts.ensures.noted
+    c.in_ok-note_counts.ensures.popped c.in_ok-note_counts.ensures.same c.in_ok-note_counts.ensures.slots c.in_ok-note_counts.ensures.noted
     c.in_ok-take_events.ensures.popped c.in_ok-take_events.ensures.taken)

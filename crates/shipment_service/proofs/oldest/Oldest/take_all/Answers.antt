@@ -1,5 +1,6 @@
 use Rattle.std.proofs.Common.{None, cond, get_or, take, ap, sym, ◌∙◌}
-use Rattle.shipment_service.specs.Tables.{entry_at, has_number}
+use Rattle.market_events.specs.Entries.{entry_at}
+use Rattle.shipment_service.specs.Tables.{has_number}
 use Rattle.shipment_service.proofs.Numbers.{has_number-more, one_taken}
 use Rattle.shipment_service.proofs.oldest.Oldest.take_all.Goals as goal
 

@@ -1,5 +1,6 @@
 use Rattle.std.proofs.Common.{◌≡◌, ℕ, take, None, if◌then◌else◌}
-use Rattle.shipment_service.specs.Tables.{entry_at, has_number}
+use Rattle.market_events.specs.Entries.{entry_at}
+use Rattle.shipment_service.specs.Tables.{has_number}
 use Rattle.shipment_service.proofs.oldest.Oldest.take_all.Given as goal
 
 abbrev pub invariant-loop-turn : goal.invariant-loop-turn

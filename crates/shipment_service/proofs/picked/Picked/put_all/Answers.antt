@@ -1,5 +1,5 @@
 use Rattle.std.proofs.Common.{Some, cond, get_or, ◌==◌, ap, sym, ◌∙◌}
-use Rattle.shipment_service.specs.Tables.{entry_at}
+use Rattle.market_events.specs.Entries.{entry_at}
 use Rattle.shipment_service.proofs.Numbers.{put_at-more}
 use Rattle.shipment_service.proofs.Padding.{no_package}
 use Rattle.shipment_service.proofs.picked.Picked.put_all.Goals as goal

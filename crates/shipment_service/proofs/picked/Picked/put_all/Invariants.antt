@@ -1,5 +1,6 @@
 use Rattle.std.proofs.Common.{◌≡◌, ℕ, take}
-use Rattle.shipment_service.specs.Tables.{entry_at, put_at}
+use Rattle.market_events.specs.Entries.{entry_at}
+use Rattle.shipment_service.specs.Tables.{put_at}
 use Rattle.shipment_service.proofs.picked.Picked.put_all.Given as goal
 
 abbrev pub invariant-loop-package : goal.invariant-loop-package

@@ -1,5 +1,6 @@
 use Rattle.std.proofs.Common.{◌≡◌, ℕ, take, None}
-use Rattle.shipment_service.specs.Tables.{entry_at, put_at, groups_of}
+use Rattle.market_events.specs.Entries.{entry_at}
+use Rattle.shipment_service.specs.Tables.{put_at, groups_of}
 use Rattle.shipment_service.proofs.queues.Queues.pick.Given as goal
 
 abbrev pub invariant-loop-turn : goal.invariant-loop-turn

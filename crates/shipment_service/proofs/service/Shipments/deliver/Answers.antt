@@ -6,7 +6,8 @@ use Rattle.std.specs.Map.{keys_of, values_of}
 use Rattle.market_events.specs.declared.bodies.Item.{Item}
 use Rattle.market_events.specs.Shipments.{deliver_rows}
 use Rattle.shipment_service.specs.Deliveries.{served_of}
-use Rattle.shipment_service.specs.Tables.{close_if, is_one_of, entry_at, put_at, has_number, queue_at, follower_of, served_queue, groups_of}
+use Rattle.market_events.specs.Entries.{entry_at}
+use Rattle.shipment_service.specs.Tables.{close_if, is_one_of, put_at, has_number, queue_at, follower_of, served_queue, groups_of}
 use Rattle.shipment_service.proofs.Closing.{number-keys}
 use Rattle.shipment_service.proofs.Heads.{turn_of}
 use Rattle.shipment_service.proofs.Steps.{turns-are}

@@ -2,12 +2,9 @@
 
 ghost use Rattle.std.specs.Prelude.{◌≡◌, OnOk};
 
-use crate::fates::{Fate, FateList};
-use crate::inlets::Inlet;
-use crate::outlets::Outlet;
-use crate::rings::{look, ring};
 use market_amounts::{ProductKey, RequestId};
 use market_events::{Ask, Body, CART_TO_STOCK, Counts, Event, Request};
+use market_rings::{Fate, FateList, Inlet, Outlet, look, ring};
 use std::alloc::{AllocError, Global};
 use std::process::Abort;
 use std::test::Fail;
