@@ -1,0 +1,10 @@
+pub mod Deciding
+pub mod Fronts
+pub mod Matching
+pub mod Lawfulness
+pub mod Firsts
+pub mod Looking
+pub mod Walking
+pub mod NumberSteps
+pub mod ClockSteps
+pub mod ReadySteps
