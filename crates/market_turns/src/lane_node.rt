@@ -65,6 +65,13 @@ impl LaneNode {
         self.queue.len()
     }
 
+    /// The core.
+    pub fn core(&self) -> &LaneCore
+        ensures { result.now ≡ self.now.node.core }
+    {
+        self.node.core()
+    }
+
     /// The journal. It takes no memory.
     pub fn journal(&self) -> &Journal
         ensures node { result.now.node ≡ self.now.node.core.node }
