@@ -10,7 +10,7 @@ ghost use Rattle.market_events.specs.Requests.{lane_of};
 ghost use Rattle.market_events.specs.WellFormed.{IsRequest};
 ghost use Rattle.market_history.specs.Blocks.{grow, Arrival};
 ghost use Rattle.market_history.specs.Causality.{events_taken};
-ghost use Rattle.market_history.specs.Once.{give_of, give_by, reply_of, requests_given, with_id};
+ghost use Rattle.market_history.specs.Once.{answer_by, give_of, give_by, reply_of, requests_given, with_id};
 ghost use Rattle.market_history.specs.Stamps.{clock_before};
 ghost use Rattle.market_node.specs.Arriving.{CanArrive};
 ghost use Rattle.market_node.specs.Cores.{new_core, with_entries};
@@ -20,7 +20,7 @@ use crate::reading::{given_in, reply_in, told};
 use crate::recorder::Recorder;
 use crate::table::{Kept, keep, note_answer};
 use market_amounts::RequestId;
-use market_events::{Body, Event, Offer, Reply, Request, asking_link, lane_node};
+use market_events::{Body, Event, Offer, Reply, Request, Rule, asking_link, lane_node};
 use market_history::Give;
 use std::alloc::{AllocError, Global};
 use std::collections::BTreeMap;
@@ -74,6 +74,26 @@ impl LaneCore {
     {
         let place = self.table.get(&id)?.answered?;
         reply_in(self.recorder.journal().entries().get(place as usize)?, id)
+    }
+
+    /// The answer to a request: the kept reply, where its id is kept with its content and was answered, and none
+    /// where it has no reply yet; `request_differs`, where its id is kept with other content; and `lane_full`,
+    /// where its id is not kept.
+    pub fn answer(&self, request: &Request) -> Result<Option<Reply>, AllocError>
+        ensures { IfOk result (λ answer. answer
+            ≡ answer_by (with_id request.now.id (requests_given self.now.entries))
+            (reply_of self.now.entries request.now.id) request.now) }
+    {
+        let Some(kept) = self.request(request.id) else {
+            return Ok(Some(Reply::Refused(Rule::LaneFull)));
+        };
+        if kept.ask != request.ask {
+            return Ok(Some(Reply::Refused(Rule::RequestDiffers)));
+        }
+        let Some(reply) = self.kept(request.id) else {
+            return Ok(None);
+        };
+        Ok(Some(reply.try_copy()?))
     }
 
     // The request that is kept with this id.

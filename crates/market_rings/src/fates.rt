@@ -1,10 +1,11 @@
 //! Fates: what becomes of the packets that are sent.
 
-ghost use Rattle.std.specs.Prelude.{◌≡◌, [], length, slice_index_or, slice_set};
+ghost use Rattle.std.specs.Prelude.{◌≡◌, ◌<◌, [], ◌∷◌, ◌++◌, length, slice_index_or, slice_set, OnErr, OnOk};
 ghost use Rattle.market_links.specs.declared.slots.TheConstants.{SLOTS};
 ghost use Rattle.market_rings.specs.Fates.{fates_at, with_fates};
 ghost use Rattle.market_rings.specs.Pushes.{next_fate, fates_after_one};
 
+use std::alloc::AllocError;
 use std::marker::Model;
 
 /// The two ways of a link.
@@ -56,6 +57,15 @@ impl FateList {
         FateList { fates, used: 0 }
     }
 
+    /// Appends a fate. On want of memory the list is as before.
+    pub fn push(&mut self, fate: Fate) -> Result<(), AllocError>
+        ensures ok { OnOk result (self.new ≡ self.old ++ fate ∷ []) }
+        ensures err { OnErr result (self.new ≡ self.old) }
+    {
+        self.fates.push(fate)?;
+        Ok(())
+    }
+
     /// Uses the next fate: Pass, where none is left.
     pub fn next(&mut self) -> Fate
         ensures next { result ≡ next_fate self.old }
@@ -101,6 +111,19 @@ impl Fates {
         ensures { result ≡ record { carry = carry.items; ack = ack.items } }
     {
         Fates { carry, ack }
+    }
+
+    /// Appends a fate to those of a slot. On want of memory the fates are as before.
+    pub fn add(&mut self, way: Way, slot: usize, fate: Fate) -> Result<(), AllocError>
+        requires { slot < SLOTS }
+        ensures ok { OnOk result
+            (self.new ≡ with_fates self.old way slot (fates_at self.old way slot ++ fate ∷ [])) }
+        ensures err { OnErr result (self.new ≡ self.old) }
+    {
+        match way {
+            Way::Carry => self.carry[slot].push(fate),
+            Way::Ack => self.ack[slot].push(fate),
+        }
     }
 
     /// Uses the next fate of a slot: Pass, where none is left.

@@ -19,3 +19,7 @@ pub mod OneRound
 pub mod QueuedNodes
 pub mod Settling
 pub mod KeptOnce
+pub mod Planning
+pub mod Queueing
+pub mod Answering
+pub mod GroupAnswers

@@ -6,7 +6,10 @@ use Rattle.market_events.specs.declared.roles.Role.{Role}
 use Rattle.market_events.specs.Links.{node_of, lane_node}
 use Rattle.market_rounds.specs.declared.seats.Seat.{Seat}
 use Rattle.market_rounds.specs.declared.seats.Seat.TheVariants as seat
-use Rattle.market_rounds.specs.Nodes.{FatedNode, idle_node}
+use Rattle.market_node.specs.Offered.{FitsService}
+use Rattle.market_turns.specs.Queues.{CanTurnLane}
+use Rattle.market_turns.specs.Turns.{CanTurn}
+use Rattle.market_rounds.specs.Nodes.{FatedNode, HasTurnedWithQueue, idle_node}
 
 pub record GroupState : Type 0 where
   pub service : FatedNode
@@ -44,3 +47,15 @@ idle_group role = record {
 
 abbrev pub idle_nodes : List FatedNode
 idle_nodes = map idle_node (range_with_len 0 NODES)
+
+-- each node of the group of a service may turn
+pub record CanTurnGroup (role : Role) (group : GroupState) : Type 0 where
+  pub service : CanTurn (FitsService role) group.service.node
+  pub first : CanTurnLane (record { node = group.first.node; queue = group.first.queue })
+  pub second : CanTurnLane (record { node = group.second.node; queue = group.second.queue })
+
+-- each node of the group turned
+pub record HasTurnedGroup (old new : GroupState) : Type 0 where
+  pub service : HasTurnedWithQueue old.service new.service
+  pub first : HasTurnedWithQueue old.first new.first
+  pub second : HasTurnedWithQueue old.second new.second

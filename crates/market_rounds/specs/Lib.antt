@@ -6,3 +6,5 @@ pub mod Nodes
 pub mod Groups
 pub mod OneRound
 pub mod Settling
+pub mod Plans
+pub mod Markets

@@ -1,15 +1,20 @@
 -- The nodes with what is in their queues and the fates of what they send.
-use Rattle.std.specs.Prelude.{◌≡◌, ℕ, ◌<◌, List, [], ◌++◌, length, map, replicate, slice_index_or}
+use Rattle.std.specs.Prelude.{◌≡◌, ℕ, ◌<◌, List, [], ◌∷◌, ◌++◌, length, map, replicate, slice_index_or}
 use Rattle.std.specs.List.{AllByRecursion}
+use Rattle.market_amounts.specs.declared.keys.RequestId.{RequestId}
 use Rattle.market_events.specs.declared.events.Entry.{Entry}
 use Rattle.market_events.specs.declared.nodes.TheConstants.{NODES}
 use Rattle.market_events.specs.declared.requests.Request.{Request}
+use Rattle.market_events.specs.Links.{lane_node}
+use Rattle.market_events.specs.Requests.{lane_of}
 use Rattle.market_history.specs.declared.schedule.Step.{Step}
 use Rattle.market_history.specs.Histories.{Histories}
 use Rattle.market_history.specs.Outstanding.{IsSettled}
 use Rattle.market_links.specs.declared.slots.TheConstants.{SLOTS}
 use Rattle.market_node.specs.Cores.{new_core}
-use Rattle.market_rings.specs.Fates.{FatesLeft}
+use Rattle.market_rings.specs.declared.fates.Fate.{Fate}
+use Rattle.market_rings.specs.declared.fates.Way.{Way}
+use Rattle.market_rings.specs.Fates.{FatesLeft, fates_at, with_fates}
 use Rattle.market_rings.specs.NodeEnds.{NodeEnds, no_ends}
 use Rattle.market_turns.specs.Queues.{IsOwnRequest, entries_offered, queue_after, with_entries_of, with_queue}
 use Rattle.market_turns.specs.Turns.{NodeState, HasTurned, arrivals, with_node_committed}
@@ -36,6 +41,15 @@ with_ends node ends = record node { node = record node.node { ends = ends } }
 abbrev pub with_requests : FatedNode → List Request → FatedNode
 with_requests node requests = record node { queue = node.queue ++ requests }
 
+-- with one fate more at a slot
+abbrev pub with_fate : FatedNode → Way → ℕ → Fate → FatedNode
+with_fate node way slot fate =
+    record node { fates = with_fates node.fates way slot (fates_at node.fates way slot ++ fate ∷ []) }
+
+-- a node with no fates left
+abbrev pub but_fates : FatedNode → FatedNode
+but_fates node = record node { fates = no_fates }
+
 abbrev pub with_committed : FatedNode → FatedNode
 with_committed node = record node { node = with_node_committed node.node }
 
@@ -54,6 +68,10 @@ fates_by nodes n = (at_node nodes n).fates
 
 abbrev pub entries_of_node : FatedNode → List Entry
 entries_of_node node = node.node.core.entries
+
+-- the entries of the lane of a request with this id
+abbrev pub entries_of_lane : List FatedNode → RequestId → List Entry
+entries_of_lane nodes id = (at_node nodes (lane_node (lane_of id))).node.core.entries
 
 -- the journals of the nodes
 abbrev pub histories_by : List FatedNode → Histories

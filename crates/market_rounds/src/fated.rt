@@ -6,19 +6,21 @@ ghost use Rattle.market_events.specs.declared.lanes.TheConstants.{LANES};
 ghost use Rattle.market_events.specs.Links.{IsLink, node_of, lane_node, sender_of, receiver_of};
 ghost use Rattle.market_events.specs.Offers.{taken_on};
 ghost use Rattle.market_history.specs.Causality.{events_taken};
+ghost use Rattle.market_history.specs.Once.{answer_by, reply_of, requests_given, with_id};
 ghost use Rattle.market_links.specs.declared.slots.TheConstants.{SLOTS};
 ghost use Rattle.market_node.specs.Notes.{event_with};
 ghost use Rattle.market_node.specs.Offered.{FitsService};
 ghost use Rattle.market_turns.specs.Queues.{CanTurnLane};
 ghost use Rattle.market_turns.specs.Turns.{CanTurn};
 ghost use Rattle.market_rounds.specs.Nodes.{HasTurnedWithQueue, idle_node, no_fates as no_fates_left};
-ghost use Rattle.market_rounds.specs.Nodes.{with_ends, with_committed, with_requests};
+ghost use Rattle.market_rounds.specs.Nodes.{with_ends, with_committed, with_requests, but_fates, with_fate};
 
-use market_events::{Event, Link, Request, Role, Service};
+use market_amounts::RequestId;
+use market_events::{Event, Link, Reply, Request, Role, Service};
 use market_history::Journal;
 use market_links::SLOTS;
 use market_node::{Core, LaneCore, NodeCore};
-use market_rings::{Ends, FateList, Fates};
+use market_rings::{Ends, Fate, FateList, Fates, Way};
 use market_turns::{LaneNode, ServiceNode};
 use std::alloc::{AllocError, Global};
 use std::marker::Model;
@@ -97,6 +99,22 @@ impl<S: Service> FatedService<S> {
         ensures { result ≡ taken_on (events_taken self.now.node.core.entries) link }
     {
         self.node.core().taken(link)
+    }
+
+    // Appends a fate to those of a slot. On want of memory the node is given up.
+    pub fn add_fate(&mut self, way: Way, slot: usize, fate: Fate) -> Result<(), AllocError>
+        requires { slot < SLOTS }
+        ensures { OnOk result (self.new ≡ with_fate self.old way slot fate) }
+    {
+        self.fates.add(way, slot, fate)
+    }
+
+    // Drops the fates that are left. On want of memory the node is given up.
+    pub fn drop_fates(&mut self, alloc: Global) -> Result<(), AllocError>
+        ensures { OnOk result (self.new ≡ but_fates self.old) }
+    {
+        self.fates = no_fates(alloc)?;
+        Ok(())
     }
 
     // Counts all entries as committed, and their events as released.
@@ -190,6 +208,38 @@ impl FatedLane {
         ensures { result ≡ length self.now.queue }
     {
         self.lane.queued()
+    }
+
+    // The lane's answer to a request: none where it is kept and has no reply yet.
+    pub fn answer(&self, request: &Request) -> Result<Option<Reply>, AllocError>
+        ensures { IfOk result (λ answer. answer
+            ≡ answer_by (with_id request.now.id (requests_given self.now.node.core.entries))
+            (reply_of self.now.node.core.entries request.now.id) request.now) }
+    {
+        self.lane.core().answer(request)
+    }
+
+    // The reply to the request with this id, where it is kept and was answered.
+    pub fn kept(&self, id: RequestId) -> Option<&Reply>
+        ensures { option_copied result ≡ reply_of self.now.node.core.entries id }
+    {
+        self.lane.kept(id)
+    }
+
+    // Appends a fate to those of a slot. On want of memory the node is given up.
+    pub fn add_fate(&mut self, way: Way, slot: usize, fate: Fate) -> Result<(), AllocError>
+        requires { slot < SLOTS }
+        ensures { OnOk result (self.new ≡ with_fate self.old way slot fate) }
+    {
+        self.fates.add(way, slot, fate)
+    }
+
+    // Drops the fates that are left. On want of memory the node is given up.
+    pub fn drop_fates(&mut self, alloc: Global) -> Result<(), AllocError>
+        ensures { OnOk result (self.new ≡ but_fates self.old) }
+    {
+        self.fates = no_fates(alloc)?;
+        Ok(())
     }
 
     // Counts all entries as committed, and their events as released.

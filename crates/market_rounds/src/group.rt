@@ -1,28 +1,31 @@
 //! A group: what takes its turns together, in one thread.
 
-ghost use Rattle.std.specs.Prelude.{◌≡◌, ◌≢◌, [], length, IfOk, OnOk};
+ghost use Rattle.std.specs.Prelude.{◌≡◌, ◌≢◌, ◌<◌, [], length, IfOk, OnOk};
 ghost use Rattle.std.specs.Option.{option_copied};
 ghost use Rattle.market_events.specs.Links.{IsLink, node_of, sender_of, receiver_of};
 ghost use Rattle.market_events.specs.Offers.{taken_on};
 ghost use Rattle.market_history.specs.Causality.{events_taken};
+ghost use Rattle.market_history.specs.Once.{answer_by, reply_of, requests_given, with_id};
+ghost use Rattle.market_links.specs.declared.slots.TheConstants.{SLOTS};
 ghost use Rattle.market_node.specs.Notes.{event_with};
-ghost use Rattle.market_node.specs.Offered.{FitsService};
-ghost use Rattle.market_turns.specs.Queues.{CanTurnLane};
-ghost use Rattle.market_turns.specs.Turns.{CanTurn};
-ghost use Rattle.market_rounds.specs.Groups.{at_seat, with_seat, idle_group};
-ghost use Rattle.market_rounds.specs.Nodes.{HasTurnedWithQueue, with_ends, with_committed, with_requests};
+ghost use Rattle.market_rounds.specs.Groups.{CanTurnGroup, HasTurnedGroup, at_seat, with_seat, idle_group};
+ghost use Rattle.market_rounds.specs.Nodes.{with_ends, with_committed, with_requests};
+ghost use Rattle.market_rounds.specs.Nodes.{but_fates, with_fate};
 
 use crate::fated::{FatedLane, FatedService};
+use crate::gate::Gate;
 use crate::seats::Seat;
-use market_events::{Event, Link, Request, Role, Service};
+use market_amounts::RequestId;
+use market_events::{Event, Link, Reply, Request, Role, Service};
 use market_history::Journal;
-use market_rings::Ends;
+use market_rings::{Ends, Fate, Way};
 use std::alloc::{AllocError, Global};
 use std::marker::Model;
 
 // A service's node and two lanes. Contracts see a `GroupState`.
 #[derive(Drop)]
 pub struct Group<S: Service> {
+    role: Role,
     service: FatedService<S>,
     first: FatedLane,
     second: FatedLane,
@@ -48,23 +51,19 @@ impl<S: Service> Group<S> {
     {
         let lane = 2 * role.number();
         Ok(Group {
+            role,
             service: FatedService::new(alloc, role, service)?,
             first: FatedLane::new(alloc, lane)?,
             second: FatedLane::new(alloc, lane + 1)?,
         })
     }
 
-    // A turn of each node. On want of memory the group is given up.
-    pub fn turn(&mut self) -> Result<(), AllocError>
-        requires service { CanTurn (FitsService S.role) self.old.service.node }
-        requires first { CanTurnLane
-            (record { node = self.old.first.node; queue = self.old.first.queue }) }
-        requires second { CanTurnLane
-            (record { node = self.old.second.node; queue = self.old.second.queue }) }
-        ensures service { OnOk result (HasTurnedWithQueue self.old.service self.new.service) }
-        ensures first { OnOk result (HasTurnedWithQueue self.old.first self.new.first) }
-        ensures second { OnOk result (HasTurnedWithQueue self.old.second self.new.second) }
+    // Passes the gate, and lets each node take a turn. On want of memory the group is given up.
+    pub fn turn<G: Gate>(&mut self, gate: &G) -> Result<(), AllocError>
+        requires { CanTurnGroup S.role self.old }
+        ensures { OnOk result (HasTurnedGroup self.old self.new) }
     {
+        gate.pass(self.role.number() as u32);
         self.service.turn()?;
         self.first.turn()?;
         self.second.turn()?;
@@ -82,6 +81,36 @@ impl<S: Service> Group<S> {
             Seat::First => self.first.queue(requests),
             Seat::Second => self.second.queue(requests),
         }
+    }
+
+    // Appends a fate to those of a slot of the node at a seat. On want of memory the group is given up.
+    pub fn add_fate(
+        &mut self,
+        seat: Seat,
+        way: Way,
+        slot: usize,
+        fate: Fate,
+    ) -> Result<(), AllocError>
+        requires { slot < SLOTS }
+        ensures { OnOk result
+            (self.new ≡ with_seat seat self.old (with_fate (at_seat seat self.old) way slot fate)) }
+    {
+        match seat {
+            Seat::Service => self.service.add_fate(way, slot, fate),
+            Seat::First => self.first.add_fate(way, slot, fate),
+            Seat::Second => self.second.add_fate(way, slot, fate),
+        }
+    }
+
+    // Drops the fates that are left. On want of memory the group is given up.
+    pub fn drop_fates(&mut self, alloc: Global) -> Result<(), AllocError>
+        ensures service { OnOk result (self.new.service ≡ but_fates self.old.service) }
+        ensures first { OnOk result (self.new.first ≡ but_fates self.old.first) }
+        ensures second { OnOk result (self.new.second ≡ but_fates self.old.second) }
+    {
+        self.service.drop_fates(alloc)?;
+        self.first.drop_fates(alloc)?;
+        self.second.drop_fates(alloc)
     }
 
     // Gives the node at a seat these ends, and takes those that it has.
@@ -142,6 +171,33 @@ impl<S: Service> Group<S> {
             Seat::Service => 0,
             Seat::First => self.first.queued(),
             Seat::Second => self.second.queued(),
+        }
+    }
+
+    // The answer to a request of the lane at a seat: none where it is kept and has no reply yet. The seat of
+    // the service has none.
+    pub fn answer(&self, seat: Seat, request: &Request) -> Result<Option<Reply>, AllocError>
+        ensures { seat ≢ Seat.Service → IfOk result (λ answer. answer
+            ≡ answer_by (with_id request.now.id (requests_given (at_seat seat self.now).node.core.entries))
+            (reply_of (at_seat seat self.now).node.core.entries request.now.id) request.now) }
+    {
+        match seat {
+            Seat::Service => Ok(None),
+            Seat::First => self.first.answer(request),
+            Seat::Second => self.second.answer(request),
+        }
+    }
+
+    // The reply of the lane at a seat to the request with this id, where it is kept and was answered. The seat
+    // of the service has none.
+    pub fn kept(&self, seat: Seat, id: RequestId) -> Option<&Reply>
+        ensures { seat ≢ Seat.Service
+            → option_copied result ≡ reply_of (at_seat seat self.now).node.core.entries id }
+    {
+        match seat {
+            Seat::Service => None,
+            Seat::First => self.first.kept(id),
+            Seat::Second => self.second.kept(id),
         }
     }
 

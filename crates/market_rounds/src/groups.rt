@@ -6,21 +6,28 @@ ghost use Rattle.market_events.specs.Links.{IsLink, lane_node as node_of_lane};
 ghost use Rattle.market_events.specs.Links.{sender_of as sender_by_link, receiver_of as receiver_by_link};
 ghost use Rattle.market_events.specs.Offers.{taken_on};
 ghost use Rattle.market_history.specs.Causality.{events_taken};
+ghost use Rattle.market_history.specs.Once.{answer_by, reply_of, requests_given, with_id};
+ghost use Rattle.market_links.specs.declared.slots.TheConstants.{SLOTS};
 ghost use Rattle.market_node.specs.Notes.{event_with};
 ghost use Rattle.std.specs.Option.{option_copied};
 ghost use Rattle.market_events.specs.declared.nodes.TheConstants.{NODES};
 ghost use Rattle.market_rings.specs.Wiring.{ends_of};
 ghost use Rattle.market_rounds.specs.Groups.{idle_nodes};
 ghost use Rattle.market_rounds.specs.Nodes.{AreReady, HasTurnedWithQueue, at_node, with_ends, with_committed};
-ghost use Rattle.market_rounds.specs.Nodes.{with_requests, queue_by};
+ghost use Rattle.market_rounds.specs.Nodes.{with_requests, queue_by, but_fates, with_fate, entries_of_lane};
 
+use crate::gate::Gate;
 use crate::group::Group;
 use crate::seats::seat_of;
+use crate::threads::turn_eight;
 use cart_service::Carts;
 use customer_service::Customers;
-use market_events::{Event, Link, NODES, Node, Request, Role, lane_node, receiver_of, sender_of};
+use market_amounts::RequestId;
+use market_events::{
+    Event, Link, NODES, Node, Reply, Request, Role, lane_node, lane_of, receiver_of, sender_of,
+};
 use market_history::Journal;
-use market_rings::Ends;
+use market_rings::{Ends, Fate, Way};
 use order_service::Orders;
 use payment_service::Payments;
 use product_service::Products;
@@ -28,6 +35,7 @@ use seller_service::Sellers;
 use shipment_service::Shipments;
 use std::alloc::{AllocError, Global};
 use std::marker::Model;
+use std::thread::Threads;
 use stock_service::Stocks;
 
 // The groups of all nodes. Contracts see the nodes, by number.
@@ -71,22 +79,29 @@ impl Groups {
         })
     }
 
-    // A turn of each node. On want of memory the groups are given up.
-    pub fn turn(&mut self) -> Result<(), AllocError>
+    // A turn of each node, in each group side by side. On want of memory the groups are given up.
+    pub fn turn<R: Threads + Sync, G: Gate + Sync>(
+        &mut self,
+        rt: &R,
+        gate: &G,
+    ) -> Result<(), AllocError>
         requires { AreReady self.old }
         ensures turned { OnOk result ((n : ℕ) → n < NODES
             → HasTurnedWithQueue (at_node self.old n) (at_node self.new n)) }
         ensures many { length self.new ≡ NODES }
     {
-        self.cart.turn()?;
-        self.product.turn()?;
-        self.stock.turn()?;
-        self.order.turn()?;
-        self.payment.turn()?;
-        self.shipment.turn()?;
-        self.customer.turn()?;
-        self.seller.turn()?;
-        Ok(())
+        turn_eight(
+            rt,
+            gate,
+            &mut self.cart,
+            &mut self.product,
+            &mut self.stock,
+            &mut self.order,
+            &mut self.payment,
+            &mut self.shipment,
+            &mut self.customer,
+            &mut self.seller,
+        )
     }
 
     // Appends requests to the queue of a lane. On want of memory the groups are given up.
@@ -106,6 +121,46 @@ impl Groups {
             Role::Customer => self.customer.queue(seat, requests),
             Role::Seller => self.seller.queue(seat, requests),
         }
+    }
+
+    // Appends a fate to those of a slot of a node. On want of memory the groups are given up.
+    pub fn add_fate(
+        &mut self,
+        node: Node,
+        way: Way,
+        slot: usize,
+        fate: Fate,
+    ) -> Result<(), AllocError>
+        requires { slot < SLOTS }
+        ensures { OnOk result
+            (self.new ≡ slice_set self.old node (with_fate (at_node self.old node) way slot fate)) }
+    {
+        let (role, seat) = seat_of(node);
+        match role {
+            Role::Cart => self.cart.add_fate(seat, way, slot, fate),
+            Role::Product => self.product.add_fate(seat, way, slot, fate),
+            Role::Stock => self.stock.add_fate(seat, way, slot, fate),
+            Role::Order => self.order.add_fate(seat, way, slot, fate),
+            Role::Payment => self.payment.add_fate(seat, way, slot, fate),
+            Role::Shipment => self.shipment.add_fate(seat, way, slot, fate),
+            Role::Customer => self.customer.add_fate(seat, way, slot, fate),
+            Role::Seller => self.seller.add_fate(seat, way, slot, fate),
+        }
+    }
+
+    // Drops the fates that are left. On want of memory the groups are given up.
+    pub fn drop_fates(&mut self, alloc: Global) -> Result<(), AllocError>
+        ensures { OnOk result (self.new ≡ map but_fates self.old) }
+    {
+        self.cart.drop_fates(alloc)?;
+        self.product.drop_fates(alloc)?;
+        self.stock.drop_fates(alloc)?;
+        self.order.drop_fates(alloc)?;
+        self.payment.drop_fates(alloc)?;
+        self.shipment.drop_fates(alloc)?;
+        self.customer.drop_fates(alloc)?;
+        self.seller.drop_fates(alloc)?;
+        Ok(())
     }
 
     // Gives a node these ends, and takes those that it has.
@@ -217,6 +272,42 @@ impl Groups {
             Role::Shipment => self.shipment.queued(seat),
             Role::Customer => self.customer.queued(seat),
             Role::Seller => self.seller.queued(seat),
+        }
+    }
+
+    // The answer of its lane to a request: none where it is kept and has no reply yet.
+    pub fn answer(&self, request: &Request) -> Result<Option<Reply>, AllocError>
+        ensures { IfOk result (λ answer. answer
+            ≡ answer_by (with_id request.now.id (requests_given (entries_of_lane self.now request.now.id)))
+            (reply_of (entries_of_lane self.now request.now.id) request.now.id) request.now) }
+    {
+        let (role, seat) = seat_of(lane_node(lane_of(request.id)));
+        match role {
+            Role::Cart => self.cart.answer(seat, request),
+            Role::Product => self.product.answer(seat, request),
+            Role::Stock => self.stock.answer(seat, request),
+            Role::Order => self.order.answer(seat, request),
+            Role::Payment => self.payment.answer(seat, request),
+            Role::Shipment => self.shipment.answer(seat, request),
+            Role::Customer => self.customer.answer(seat, request),
+            Role::Seller => self.seller.answer(seat, request),
+        }
+    }
+
+    // The reply of its lane to the request with this id, where it is kept and was answered.
+    pub fn kept(&self, id: RequestId) -> Option<&Reply>
+        ensures { option_copied result ≡ reply_of (entries_of_lane self.now id) id }
+    {
+        let (role, seat) = seat_of(lane_node(lane_of(id)));
+        match role {
+            Role::Cart => self.cart.kept(seat, id),
+            Role::Product => self.product.kept(seat, id),
+            Role::Stock => self.stock.kept(seat, id),
+            Role::Order => self.order.kept(seat, id),
+            Role::Payment => self.payment.kept(seat, id),
+            Role::Shipment => self.shipment.kept(seat, id),
+            Role::Customer => self.customer.kept(seat, id),
+            Role::Seller => self.seller.kept(seat, id),
         }
     }
 

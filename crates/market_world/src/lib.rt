@@ -10,6 +10,7 @@ mod places;
 mod schedule;
 mod world;
 
+pub use copies::copy_of;
 pub use outstanding::{oldest, settled};
 pub use schedule::run_schedule;
 pub use world::World;

@@ -5,7 +5,7 @@ use Rattle.market_rounds.proofs.Settling.Work.{to_settle}
 use Rattle.market_rounds.proofs.nodes.Nodes.settle.Given as goal
 
 abbrev pub invariant-loop-self : goal.invariant-loop-self
-invariant-loop-self l = AreReady l.self × HaveGoneOn l.fn.self l.self
+invariant-loop-self g l = AreReady l.self × HaveGoneOn l.fn.self l.self
 
 abbrev pub decreases-loop-self : goal.decreases-loop-self
-decreases-loop-self l = to_settle l.self
+decreases-loop-self g l = to_settle l.self
