@@ -1,0 +1,14 @@
+pub mod Cuts
+pub mod Readings
+pub mod LinkTexts
+pub mod PastTexts
+pub mod PastPieces
+pub mod FieldCuts
+pub mod Events
+pub mod Whats
+pub mod WhatTests
+pub mod Entries
+pub mod RowAnswers
+pub mod Heads
+pub mod Stamped
+pub mod Held

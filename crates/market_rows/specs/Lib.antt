@@ -1,0 +1,5 @@
+pub mod Rows
+pub mod Shelves
+pub mod FaultTexts
+pub mod Happening
+pub mod Reading
